@@ -84,9 +84,9 @@ enum motion_code {
     MOTION_OTHER_VERSION = 14 /* header and library are of two versions: the inline functions alone */
 };
 
-/* Where a text is refused; written where MOTION_REFUSED is answered, and else left as it was. The
- * line, counted from 1, and the rule, as letter 'B' and number 8. Of a configuration `line` is its
- * place: 0 for the whole text or its top, else the number of an item. The rules stand in
+/* Where a text was rejected; written where MOTION_REFUSED is answered, and else left as it was. The
+ * line, counted from 1, and the rule, as letter 'B' and number 8. Of a configuration `line` is a
+ * position: 0 for the whole text or its top, else the number of an item. The rules stand in
  * docs/rules.md. */
 typedef struct motion_refusal {
     uint64_t line;

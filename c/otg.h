@@ -63,6 +63,24 @@ static inline int otg_done(const Otg *otg)
     return otg_rests(otg) && otg->current == otg->target;
 }
 
+/* A velocity, acceleration or jerk per second, second^2 or second^3, in units per cycle, cycle^2 or
+ * cycle^3, rounded toward zero; `units` are those of one of the caller's units, and a cycle has
+ * `cycle_us` microseconds. otg_velocity_of(500, 1e6, 1000) is 500 mm/s in nm per ms. */
+static inline int64_t otg_velocity_of(double rate, double units, double cycle_us)
+{
+    return (int64_t)(rate * units * cycle_us / 1e6);
+}
+
+static inline int64_t otg_acceleration_of(double rate, double units, double cycle_us)
+{
+    return (int64_t)(rate * units * cycle_us / 1e6 * cycle_us / 1e6);
+}
+
+static inline int64_t otg_jerk_of(double rate, double units, double cycle_us)
+{
+    return (int64_t)(rate * units * cycle_us / 1e6 * cycle_us / 1e6 * cycle_us / 1e6);
+}
+
 #ifdef __cplusplus
 }
 #endif

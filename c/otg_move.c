@@ -10,13 +10,14 @@
 
 int main(void)
 {
-    /* 1 unit is 1 nm and a cycle 1 ms: 500 mm/s, 2 m/s^2 and 20 m/s^3 */
+    /* 1 unit is 1 nm and a cycle 1 ms: 500 mm/s, 2,000 mm/s^2 and 20,000 mm/s^3 within 1 m */
+    const double nm = 1e6, us = 1000;
     Otg otg = {.lo = -1000000000,
                .hi = 1000000000,
-               .vmax = 500000,
-               .amax = 2000,
-               .dmax = 2000,
-               .jmax = 20};
+               .vmax = otg_velocity_of(500, nm, us),
+               .amax = otg_acceleration_of(2000, nm, us),
+               .dmax = otg_acceleration_of(2000, nm, us),
+               .jmax = otg_jerk_of(20000, nm, us)};
     if (otg_open(&otg, 0) != OTG_OK)
         return 1;
     if (otg_move(&otg, 200000000, 500000, 2000, 2000, 20) != OTG_OK)

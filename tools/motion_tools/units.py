@@ -109,7 +109,8 @@ class Units:
         factor, unit = scale or (1.0, "units")
         seconds, per = (self.cycle_us / 1e6, "s") if scale and self.cycle_us else (1.0, "cycle")
         return {"position": (factor, unit), "velocity": (factor / seconds, f"{unit}/{per}"),
-                "acceleration": (factor / seconds / seconds, f"{unit}/{per}²")}
+                "acceleration": (factor / seconds / seconds, f"{unit}/{per}²"),
+                "jerk": (factor / seconds / seconds / seconds, f"{unit}/{per}³")}
 
     def of_time(self, cycles: float) -> tuple[float, str]:
         """The factor of cycles and the name of the time axis of a picture of this many."""

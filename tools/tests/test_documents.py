@@ -39,6 +39,10 @@ class Crates(unittest.TestCase):
         done = subprocess.run([ROOT / "tools" / "crate_table"], capture_output=True, text=True)
         self.assertEqual((done.returncode, done.stdout), (0, ""))
 
+    def test_a_file_of_lemmas_says_what_rests_on_it(self):
+        done = subprocess.run([ROOT / "tools" / "proof_lines"], capture_output=True, text=True)
+        self.assertEqual((done.returncode, done.stdout), (0, ""))
+
     def test_a_crate_has_what_its_page_names(self):
         for page in sorted((ROOT / "crates").glob("*/README.md")):
             files = [file for part in ("src", "specs") for file in (page.parent / part).rglob("*.*t*")]

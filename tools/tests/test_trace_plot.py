@@ -225,6 +225,7 @@ class Pictures(unittest.TestCase):
     def test_what_is_asked_for(self):
         cell = EXAMPLES / "cell" / "cell.trace"
         for words, wanted in ((("--following",), ["following error", "following"]),
+                              (("--jerk",), ["jerk", "[units/cycle³]"]),
                               (("--bits",), ["statusword", "operation enabled", "fault reset"]),
                               (("--together", "BELT,FEEDER"), ["BELT and FEEDER"]),
                               (("--overlay", EXAMPLES / "gear" / "gear.trace"), ["gear"])):
@@ -246,6 +247,25 @@ class Pictures(unittest.TestCase):
         lane = read(row(1, 2, place=0), row(2, 6, place=1), row(3, 9, place=4)).axes["X"].lane
         self.assertEqual([column[reader.FOLLOWING] for column in lane.columns], [0, 1, 2])
         self.assertEqual([column[reader.REPORTED_VELOCITY] for column in lane.columns], [None, 1, 3])
+
+    def test_jerk(self):
+        lane = read(row(1, 2), row(2, 6), row(3, 9), row(4, 9, driven=0), row(5, 9)).axes["X"].lane
+        self.assertEqual([column[reader.JERK] for column in lane.columns], [2, 0, -3, None, None])
+
+    def test_table_of_setpoints(self):
+        rows = [f"{cycle},{place},0,0,0" for cycle, place in ((1, 2), (2, 6), (3, 9))]
+        trace = reader.read_trace([reader.TABLE, *rows])
+        lane = trace.axes["setpoints"].lane
+        self.assertEqual([column[2] for column in lane.columns], [2, 4, 3])
+        self.assertEqual([column[reader.JERK] for column in lane.columns], [2, 0, -3])
+        text = "\n".join([reader.TABLE, *rows, ""]).encode()
+        status, picture, _ = plot("-", "--jerk", text=text)
+        told = list(ElementTree.fromstring(picture).itertext())
+        self.assertEqual((status, "state" in told, "reported by the drive" in told), (0, False, False))
+        self.assertEqual(plot("-", "--jerk", "--html", text=text)[0], 0)
+        for bad in ("2,1,0,0,0", "1,x,0,0,0", "1,2,0,0"):
+            status, _, told = plot("-", text="\n".join([reader.TABLE, bad, ""]).encode())
+            self.assertEqual((status, "record 2" in told), (3, True), told)
 
     def test_long_trace(self):
         lines = HEAD + [line for cycle in range(1, 20001) for line in row(cycle, cycle % 300)] + END

@@ -1,4 +1,5 @@
 -- A move that is under way is carried on by every event, or turned.
+-- for: courses_end_in_time, blended_moves_end_in_time, moves_are_done_at_their_targets and others
 use Rattle.std.specs.Prelude.{◌≡◌, refl, Ok, ◌⊎◌, ℕ, zero, suc, ◌+◌, ◌/◌, ◌≤◌, Bool, true, false, not, ◌&&◌, ◌||◌, nat_eq, ℤ, pos, ◌+ℤ◌, ◌-ℤ◌, ◌≤ℤ◌, unsigned_abs, Option, Some, None, is_some, unwrap_or, List, slice_get, if◌then◌else◌}
 use Rattle.std.specs.Ordering.{int_eq}
 use Rattle.std.proofs.Common.{◌∙◌, sym, ap, subst, arith, inl, inr}

@@ -1,4 +1,5 @@
 -- In which direction a blend that applies leads.
+-- for: blended_moves_end_in_time, moves_are_done_at_their_targets
 use Rattle.std.specs.Prelude.{◌≡◌, Bool, true, false, ℤ, neg_ℤ, ◌-ℤ◌, ◌≤ℤ◌, ◌<ℤ◌, int_lt}
 use Rattle.std.proofs.Common.{◌∙◌, arith, inl, inr}
 use Rattle.std.proofs.lemmas.Int.{ints}

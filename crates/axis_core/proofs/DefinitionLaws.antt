@@ -1,4 +1,5 @@
 -- The limits of an axis and its increment never change.
+-- for: axes_keep_their_definitions, paths_are_followed
 use Rattle.std.specs.Prelude.{◌≡◌, refl, ℕ, Bool, true, false, ◌&&◌, nat_eq, ℤ, ◌+ℤ◌, Option, Some, None, List, [], ◌∷◌, Result, Ok, Err, slice_get, if◌then◌else◌}
 use Rattle.std.proofs.Common.{◌∙◌, ap}
 use Rattle.axis_state.specs.Diagram.{next_of}

@@ -1,4 +1,5 @@
 -- Where a move is done.
+-- for: blended_moves_end_in_time, moves_are_done_at_their_targets
 use Rattle.std.specs.Prelude.{◌≡◌, ◌↔◌, refl, ◌⊎◌, ℕ, Bool, true, false, ◌&&◌, ◌||◌, nat_eq, ℤ, pos, neg_ℤ, ◌+ℤ◌, ◌-ℤ◌, ◌≤ℤ◌, int_le, int_lt, Ok, Option, Some, None, List, slice_get, if◌then◌else◌}
 use Rattle.std.specs.Ordering.{int_eq}
 use Rattle.std.proofs.Common.{◌∙◌, sym, ap, subst, arith, inl, inr}

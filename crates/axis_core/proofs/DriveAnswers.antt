@@ -1,4 +1,5 @@
 -- An answer by which the axis is driven brings no error.
+-- for: paths_are_followed
 use Rattle.std.specs.Prelude.{◌≡◌, refl, ℕ, Bool, true, false, ◌&&◌, ◌||◌, not, if◌then◌else◌, Option, Some}
 use Rattle.cia402_machine.specs.Statusword.{state_of_word}
 use Rattle.cia402_machine.specs.declared.drive.DriveIn.{DriveIn}

@@ -1,4 +1,5 @@
 -- From which states events lead.
+-- for: power, command, calls_move_no_axis and others
 use Rattle.std.specs.Prelude.{◌≡◌, refl, false, true}
 use Rattle.axis_state.specs.Diagram.{IsFrom, TakesMotion}
 use Rattle.axis_state.specs.declared.diagram.AxisEvent.TheVariants as event

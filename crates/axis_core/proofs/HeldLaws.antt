@@ -1,4 +1,5 @@
 -- A group's hold keeps an axis from every command but a Reset.
+-- for: held_axes_take_no_command
 use Rattle.std.specs.Prelude.{◌≡◌, refl, Bool, true, false, Option, Some, None}
 use Rattle.std.proofs.Common.{◌∙◌, sym}
 use Rattle.command_pool.specs.Waiting.{last_of}

@@ -1,4 +1,5 @@
 -- Calls between cycles move no axis.
+-- for: calls_move_no_axis
 use Rattle.std.specs.Prelude.{◌≡◌, refl, ℕ, Bool, true, false, ◌-ℤ◌, Option, Some, None, if◌then◌else◌}
 use Rattle.std.proofs.Common.{ap}
 use Rattle.buffer_modes.specs.Queue.{is_active_at_once}

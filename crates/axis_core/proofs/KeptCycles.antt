@@ -1,4 +1,5 @@
 -- What a cycle keeps of an axis.
+-- for: power, command, calls_move_no_axis and others
 use Rattle.std.specs.Prelude.{◌≡◌, refl, ◌⊎◌, ℕ, ◌≤◌, Bool, true, false, not, ◌&&◌, ◌||◌, nat_eq, ℤ, pos, ◌≤ℤ◌, ◌-ℤ◌, unsigned_abs, Option, Some, None, is_some, List, [], ◌++◌, slice_get, if◌then◌else◌}
 use Rattle.std.proofs.lemmas.Bool.{and_parts, not-true, or_left}
 use Rattle.std.specs.Ordering.{int_eq}

@@ -1,4 +1,5 @@
 -- What failing, beginning, ending and settling keep of an axis.
+-- for: power, command, calls_move_no_axis and others
 use Rattle.std.specs.Prelude.{◌≡◌, refl, ℕ, Bool, true, false, ℤ, pos, ◌≤ℤ◌, ◌+ℤ◌, int_lt, Option, Some, None, List, [], ◌∷◌, if◌then◌else◌}
 use Rattle.std.proofs.lemmas.Bool.{or_parts}
 use Rattle.std.proofs.Common.{sym, ap, subst, arith, inl, inr}

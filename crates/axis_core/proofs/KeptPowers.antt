@@ -1,5 +1,6 @@
 -- What opening, a Power, a path and the loss of an owner keep of an axis, and what a kept axis lets
 -- its calls ask.
+-- for: power, command, axes_stay_kept
 use Rattle.std.specs.Prelude.{◌≡◌, refl, ◌⊎◌, ℕ, Bool, true, false, not, ◌&&◌, ℤ, pos, ◌≤ℤ◌, Option, Some, None, List, [], ◌∷◌, if◌then◌else◌, IsTrue}
 use Rattle.std.proofs.Common.{sym, ap, subst, arith, inl, inr}
 use Rattle.std.proofs.lemmas.Int.{ints}

@@ -1,4 +1,5 @@
 -- What the loss of an owner keeps of the commands that wait.
+-- for: axes_stay_kept
 use Rattle.std.specs.Prelude.{◌≡◌, refl, ◌⊎◌, ℕ, Option, List, [], ◌∷◌, map}
 use Rattle.std.proofs.Common.{inl, inr}
 use Rattle.axis_state.specs.declared.state.AxisState.{AxisState}

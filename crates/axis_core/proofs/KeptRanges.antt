@@ -1,4 +1,5 @@
 -- What a kept axis says of the numbers that a cycle works with.
+-- for: power, command, calls_move_no_axis and others
 use Rattle.std.specs.Prelude.{◌≡◌, refl, ◌⊎◌, ◌≤◌, Bool, true, ℤ, pos, ◌≤ℤ◌, unsigned_abs, Option, Some, None, IfSome, List, [], ◌∷◌, slice_get, unwrap_or, if◌then◌else◌}
 use Rattle.std.proofs.Common.{ap, subst, sym, arith, inl, inr}
 use Rattle.trapezoid_plan.specs.MoveRun as plan

@@ -1,4 +1,5 @@
 -- Every row of a driven axis keeps its limits.
+-- for: calls_move_no_axis, axes_stay_kept, courses_end_in_time and others
 use Rattle.std.specs.Prelude.{Bool, Err, List, None, Ok, Option, Result, Some, [], false, if◌then◌else◌, is_some, nat_eq, not, pos, refl, slice_get, true, unsigned_abs, unwrap_or, ℕ, ℤ, ◌&&◌, ◌+ℤ◌, ◌-ℤ◌, ◌-◌, ◌∷◌, ◌≡◌, ◌≤◌}
 use Rattle.std.proofs.lemmas.Bool.{and_parts, not-true}
 use Rattle.std.proofs.Common.{◌∙◌, sym, ap, subst, arith}

@@ -1,4 +1,5 @@
 -- A moving axis has a command, and comes on its group's path by on_path alone.
+-- for: moving_axes_have_commands, paths_are_followed
 use Rattle.std.specs.Prelude.{◌≡◌, refl, ℕ, Bool, true, false, not, ◌&&◌, nat_eq, ℤ, ◌+ℤ◌, Option, Some, None, is_some, List, [], ◌∷◌, ◌++◌, slice_get, if◌then◌else◌, Result, Ok, Err}
 use Rattle.std.proofs.Common.{◌∙◌, sym, ap}
 use Rattle.std.proofs.lemmas.Bool.{and_right}

@@ -1,4 +1,5 @@
 -- A command that is not refused may be admitted.
+-- for: power, command, axes_stay_kept and others
 use Rattle.std.specs.Prelude.{◌≡◌, refl, ◌⊎◌, ℕ, Bool, true, false, not, ◌&&◌, nat_eq, ℤ, Option, Some, None, is_some, List, [], ◌∷◌, length, if◌then◌else◌}
 use Rattle.std.proofs.Common.{◌∙◌, ap, sym, subst, inl, inr}
 use Rattle.axis_state.specs.Diagram.{TakesMotion}

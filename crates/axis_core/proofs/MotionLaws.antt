@@ -1,4 +1,5 @@
 -- A move and a halt lead the axis by the taken steps of their plans.
+-- for: moves_go_on_by_their_steps
 use Rattle.std.specs.Prelude.{◌≡◌, ◌↔◌, refl, Bool, true, false, ◌&&◌, nat_eq, ℤ, ◌+ℤ◌, Ok, Option, Some, None, List, slice_get, if◌then◌else◌}
 use Rattle.std.proofs.Common.{◌∙◌, sym, ap, subst}
 use Rattle.blend_plan.specs.BlendRun.{blend_taken_of}

@@ -1,4 +1,5 @@
 -- An axis that is driven has small numbers.
+-- for: power, command, axes_stay_kept and others
 use Rattle.std.proofs.Common.{arith}
 use Rattle.std.proofs.lemmas.Int.{ints}
 use Rattle.std.specs.Prelude.{pos}

@@ -1,4 +1,5 @@
 -- How many notes a cycle brings.
+-- for: cycle
 use Rattle.std.specs.Prelude.{ℕ, ◌+◌, ◌≤◌, Bool, true, false, nat_eq, ◌&&◌, ℤ, Option, Some, None, List, [], ◌∷◌, ◌++◌, length, slice_get, if◌then◌else◌}
 use Rattle.std.proofs.Common.{arith, length-append}
 use Rattle.buffer_modes.specs.Queue.{active_note}

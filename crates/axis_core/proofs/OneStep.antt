@@ -1,5 +1,6 @@
 -- A cycle's answer and its step as one: what the axis makes of them alone, and how its commands end
 -- by that.
+-- for: paths_are_followed
 use Rattle.std.proofs.Common.{◌≡◌, ◌∙◌, refl, sym, ap, subst}
 use Rattle.std.specs.Prelude.{◌≤◌, Bool, true, false, None, Option, Some, IfSome, List, unsigned_abs, nat_eq, ◌&&◌, slice_get}
 use Rattle.axis_state.specs.Diagram.{IsFrom}

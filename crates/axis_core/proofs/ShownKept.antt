@@ -1,4 +1,5 @@
 -- Every call and every cycle keeps what an axis shows of its errors and of its Stop.
+-- for: errors_stand_in_error_stop, moving_axes_have_commands, paths_are_followed
 use Rattle.std.specs.Prelude.{Bool, Err, List, None, Ok, Option, Result, Some, [], false, if◌then◌else◌, is_some, nat_eq, not, refl, slice_get, true, ℕ, ℤ, ◌&&◌, ◌-ℤ◌, ◌||◌, ◌∷◌, ◌≡◌, ◌≤◌, ◌⊎◌}
 use Rattle.std.proofs.lemmas.Bool.{and_parts}
 use Rattle.std.proofs.Common.{◌∙◌, sym, ap, subst, arith, inl, inr}

@@ -1,4 +1,5 @@
 -- Targets that are small enough to be worked with.
+-- for: command
 use Rattle.std.specs.Prelude.{List, [], ◌∷◌}
 use Rattle.command_pool.specs.Waiting.{last_of}
 use Rattle.command_pool.specs.declared.wanted.Wanted.{Wanted}

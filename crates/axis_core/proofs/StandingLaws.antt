@@ -1,4 +1,5 @@
 -- An axis in Standstill stays there while no error comes.
+-- for: standing_axes_stay
 use Rattle.std.proofs.Common.{◌≡◌, ◌∙◌, refl, subst}
 use Rattle.std.specs.Prelude.{true, false, None, Option, Some, nat_eq, if◌then◌else◌}
 use Rattle.axis_state.specs.declared.state.AxisState.{AxisState}

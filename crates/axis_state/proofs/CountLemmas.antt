@@ -1,4 +1,5 @@
 -- Counts and places of an axis.
+-- for: place, targets_lie_near, counts_are_read_back and others
 use Rattle.std.specs.Prelude.{suc, ◌≡◌, ◌+◌, ◌*◌, ◌≤◌, ◌<◌, ℤ, pos, negsuc, neg_ℤ, ◌+ℤ◌, ◌-ℤ◌, ◌*ℤ◌, ◌≤ℤ◌, ◌<ℤ◌, int_lt, Bool, ◌&&◌, if◌then◌else◌, unsigned_abs}
 use Rattle.std.specs.Int.{int_div_euclid}
 use Rattle.std.proofs.Common.{arith, refl, ap, ◌⊎◌, inl, inr}

@@ -1,4 +1,5 @@
 -- A name that is kept with zeros after it.
+-- for: new
 use Rattle.std.specs.Prelude.{ℕ, ◌≡◌, ◌≤◌, ◌<◌, ◌-◌, true, nat_lt, List, [], ◌∷◌, take, drop, length, replicate, ◌++◌, IsTrue}
 use Rattle.std.proofs.Common.{◌∙◌, ap, arith, rules, length-append}
 use Rattle.std.proofs.lemmas.Bool.{ltb-true}

@@ -1,4 +1,5 @@
 -- Each status of the job comes of its cause.
+-- for: run_text
 use Rattle.std.specs.Prelude.{◌≡◌, refl, ℕ, true, Result, Ok, Err, List}
 use Rattle.std.proofs.Common.{◌∙◌, ap}
 use Rattle.bench_run.specs.Run.{run_of}

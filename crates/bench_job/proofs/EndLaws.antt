@@ -1,4 +1,5 @@
 -- How the job ends, from what its parts did.
+-- for: run_text
 use Rattle.std.specs.Prelude.{◌≡◌, refl, ℕ, true, false, Result, Ok, Err, List, map, All}
 use Rattle.std.proofs.Common.{◌∙◌, sym, ap, subst}
 use Rattle.bench_run.specs.Going.{run_at}

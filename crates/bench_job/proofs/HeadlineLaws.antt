@@ -1,4 +1,5 @@
 -- What the trace of a bench stands for.
+-- for: run_text
 use Rattle.std.specs.Prelude.{◌≡◌, refl, ℕ, true, false, Option, Result, Ok, Err, List, map}
 use Rattle.std.proofs.Common.{◌∙◌, sym, ap}
 use Rattle.bench_run.specs.InStep.{IsInStep}

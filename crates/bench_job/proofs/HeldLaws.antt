@@ -1,5 +1,5 @@
 -- What a kernel keeps of a bench is read back from its trace.
--- for: bench_traces_are_legal
+-- for: run_text
 use Rattle.std.proofs.Common.{◌≡◌, ◌<◌, List, length, map, ◌∙◌, subst, arith}
 use Rattle.std.specs.Prelude.{All}
 use Rattle.std.proofs.lemmas.List.{length-map}

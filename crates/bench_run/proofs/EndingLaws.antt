@@ -1,4 +1,5 @@
 -- A run ends early for its cause alone.
+-- for: runs_end_for_their_cause
 use Rattle.std.specs.Prelude.{◌≡◌, refl, ◌↔◌, ◌≤◌, ◌<◌, ◌-◌, ◌==◌, ◌&&◌, ℕ, true, false, Bool, if◌then◌else◌, Result, Ok, Err, List, [], ◌∷◌, length}
 use Rattle.std.proofs.Common.{◌∙◌, inl, inr, sym, ap, subst, arith}
 use Rattle.std.proofs.lemmas.Bool.{cases_lt, eqb-false, eqb-true}

@@ -1,4 +1,5 @@
 -- Events for which there is room are made, each in an entry.
+-- for: room_is_enough
 use Rattle.std.specs.Prelude.{◌≡◌, refl, ℕ, suc, ◌+◌, ◌-◌, ◌≤◌, ◌<◌, ◌==◌, if◌then◌else◌, Bool, false, Result, Ok, Err, List, [], ◌∷◌, length}
 use Rattle.std.proofs.Common.{◌∙◌, sym, ap, arith}
 use Rattle.std.proofs.lemmas.Bool.{eqb-true, false_from_ne_true}

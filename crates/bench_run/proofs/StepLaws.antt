@@ -1,4 +1,5 @@
 -- The drives of a run are in step with its history.
+-- for: events_keep_drives_in_step, runs_are_in_step
 use Rattle.std.specs.Prelude.{◌≡◌, refl, ℕ, ◌+◌, ◌⊎◌, Result, Ok, Err, List, [], ◌∷◌, ◌++◌, map}
 use Rattle.std.proofs.Common.{◌∙◌, inl, inr, sym, ap, subst}
 use Rattle.axis_state.specs.declared.definition.AxisRow.{AxisRow}

@@ -1,4 +1,5 @@
 -- A call that is read is one of its configuration.
+-- for: read_bench
 use Rattle.std.proofs.Common.{◌≡◌, ℕ, ◌≤◌, Some, Ok, List, [], ◌∷◌, length, refl, sym, ◌∙◌, subst}
 use Rattle.std.specs.Prelude.{◌||◌, ◌==◌, not, slice_get}
 use Rattle.fb_outputs.specs.Inputs.{AreInputs}

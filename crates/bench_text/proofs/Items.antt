@@ -1,4 +1,5 @@
 -- What the lines of the machine part leave.
+-- for: read_bench
 use Rattle.std.proofs.Common.{◌≡◌, ℕ, Ok, List, [], ◌∷◌, ◌++◌, refl, sym, ap, subst, lit≤}
 use Rattle.axis_state.specs.declared.definition.AxisDef.{AxisDef}
 use Rattle.kin_core.specs.declared.limits.Limits.{Limits}

@@ -1,4 +1,5 @@
 -- The invariant of a bench as far as it was read is kept by each line.
+-- for: read_bench
 use Rattle.std.proofs.Common.{◌≡◌, ℕ, ◌+◌, ◌≤◌, zero, suc, Bool, true, false, None, Result, Ok, Err, List, [], ◌∷◌, ◌++◌, length, refl, sym, ◌∙◌, ap, subst, inl, inr, lit≤}
 use Rattle.std.specs.Prelude.{◌==◌, nat_le, not, slice_set}
 use Rattle.std.specs.List.{AllByRecursion}

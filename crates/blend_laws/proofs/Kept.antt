@@ -1,4 +1,5 @@
 -- After a taken step a move, and two moves, are under way as before.
+-- for: second_targets_are_never_passed
 use Rattle.std.proofs.Common.{ℤ, ◌+ℤ◌}
 use Rattle.kin_core.specs.declared.limits.Limits.{Limits}
 use Rattle.kin_core.specs.Laws.{AreTakenSteps}

@@ -1,4 +1,5 @@
 -- The second move after the crossing: it heads for its target, so it never passes it.
+-- for: second_targets_are_never_passed
 use Rattle.std.proofs.Common.{◌≡◌, ℕ, zero, suc, ◌+◌, ◌-◌, ◌≤◌, ◌<◌, true, ℤ, pos, neg_ℤ, ◌-ℤ◌, ◌≤ℤ◌, unsigned_abs, arith, inl, inr}
 use Rattle.std.proofs.lemmas.Int.{ints}
 use Rattle.kin_core.specs.declared.limits.Limits.{Limits}

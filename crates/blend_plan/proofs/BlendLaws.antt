@@ -1,4 +1,5 @@
 -- Where a blend applies, its velocity, and what a crossing meets.
+-- for: crossings_have_the_target_between, blends_without_steps_brake
 use Rattle.std.proofs.Common.{◌≡◌, ◌↔◌, true, ◌&&◌, ◌||◌, int_le, int_lt, ℤ, pos, ◌-ℤ◌, ◌≤ℤ◌, ◌≤◌, unsigned_abs, arith, inl, inr}
 use Rattle.std.specs.Int.{int_max}
 use Rattle.std.proofs.lemmas.Bool.{and_parts, and_from, or_left, or_right}

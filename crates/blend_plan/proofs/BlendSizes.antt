@@ -1,4 +1,5 @@
 -- The steps that stop at the first target or pass it, in sizes, and the greatest of them.
+-- for: blend_step, blend_steps_are_safe, crossings_have_the_target_between and others
 use Rattle.std.proofs.Common.{◌≡◌, ◌⊎◌, ℕ, ◌+◌, ◌-◌, ◌≤◌, ◌<◌, Bool, true, false, nat_le, ◌&&◌, ◌||◌, unwrap_or, unsigned_abs, max, min, arith, refl, ◌∙◌, ap, sym, inl, inr}
 use Rattle.std.proofs.lemmas.Bool.{leb-true, le-leb, and_from, or_left, or_right, cases_lt}
 use Rattle.motion_numbers.specs.Greatest.{greatest, IsFound}

@@ -1,4 +1,5 @@
 -- The steps that may follow in a blend in whole numbers, and the blend step among them.
+-- for: blend_step, blend_steps_are_safe, crossings_have_the_target_between and others
 use Rattle.std.proofs.Common.{◌≡◌, ◌⊎◌, ℕ, ◌+◌, ◌-◌, ◌≤◌, unwrap_or, ℤ, pos, ◌≤ℤ◌, unsigned_abs, arith, refl, ◌∙◌, ap, sym, inl, inr}
 use Rattle.std.proofs.lemmas.Int.{ints, clamps}
 use Rattle.motion_numbers.specs.Greatest.{greatest, IsFound}

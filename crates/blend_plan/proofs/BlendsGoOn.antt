@@ -1,4 +1,5 @@
 -- A blend that has a step keeps having one until it crosses, in sizes.
+-- for: crossings_have_the_target_between, blends_go_on_until_they_cross, blends_without_steps_brake
 use Rattle.std.proofs.Common.{◌≡◌, ◌⊎◌, ℕ, zero, suc, ◌+◌, ◌-◌, ◌*◌, ◌≤◌, ◌<◌, max, min, arith, refl, inl, inr}
 use Rattle.std.specs.Int.{div_ceil}
 use Rattle.std.proofs.lemmas.Nat.{mul-le}

@@ -1,4 +1,5 @@
 -- Which taken steps cross.
+-- for: crossings_have_the_target_between, blends_go_on_until_they_cross, blends_without_steps_brake
 use Rattle.std.proofs.Common.{◌≡◌, ◌↔◌, Bool, true, false, ◌&&◌, int_le, ℤ, pos, ◌≤ℤ◌, unsigned_abs, arith, ◌∙◌, sym, refl}
 use Rattle.std.proofs.lemmas.Bool.{and_parts, and_from}
 use Rattle.std.proofs.lemmas.Int.{ints}

@@ -1,4 +1,5 @@
 -- Blend steps are safe.
+-- for: blend_steps_are_safe, crossings_have_the_target_between, blends_go_on_until_they_cross and others
 use Rattle.std.proofs.Common.{◌≡◌, ◌⊎◌, true, false, int_lt, ℤ, pos, neg_ℤ, ◌+ℤ◌, ◌-ℤ◌, ◌≤ℤ◌, unsigned_abs, arith, inl, inr}
 use Rattle.std.specs.Int.{int_max}
 use Rattle.std.proofs.lemmas.Int.{ints, clamps}

@@ -1,4 +1,5 @@
 -- Sums of the steps of a ramp above a velocity, and the greatest step whose sum fits a way.
+-- for: blend_step, blend_steps_are_safe, crossings_have_the_target_between and others
 use Rattle.std.proofs.Common.{◌≡◌, ℕ, zero, suc, ◌+◌, ◌-◌, ◌*◌, ◌/◌, ◌%◌, ◌≤◌, ◌<◌, min, arith, refl, ◌∙◌, ap, sym, inl, inr}
 use Rattle.std.proofs.lemmas.Nat.{div-add-mod', mod_below, mul-le}
 use Rattle.motion_numbers.specs.Run.{ramp, run_of}

@@ -1,4 +1,5 @@
 -- Sums of the steps of a ramp below a velocity, by the number of their terms.
+-- for: crossings_have_the_target_between, blends_go_on_until_they_cross, blends_without_steps_brake
 use Rattle.std.proofs.Common.{◌≡◌, ℕ, zero, suc, ◌+◌, ◌-◌, ◌*◌, ◌^◌, ◌≤◌, ◌<◌, arith, refl, ◌∙◌, ap, sym, inl, inr}
 use Rattle.std.specs.Int.{div_ceil}
 use Rattle.std.proofs.lemmas.Grind.{div_ceil_times}

@@ -1,4 +1,5 @@
 -- What becomes of the active command, and who is notified of it.
+-- for: ends_tell_their_owners, fates_are_of_the_active_command
 use Rattle.std.specs.Prelude.{◌≡◌, ◌≢◌, refl, ℕ, Bool, Option, Some, None, List}
 use Rattle.std.specs.List.{Contains}
 use Rattle.std.proofs.Common.{◌∙◌, sym, ap, subst, arith}

@@ -1,4 +1,5 @@
 -- How often an instance has commands and is reported of their ends.
+-- for: ends_tell_their_owners, owners_are_taken_away
 use Rattle.std.specs.Prelude.{◌≡◌, ◌≤◌, refl, ℕ, ◌+◌, Option, Some, None, List, [], ◌∷◌, ◌++◌, length}
 use Rattle.std.proofs.Common.{sym, arith, length-append}
 use Rattle.command_pool.specs.Waiting.{notes_of, told_to}

@@ -1,4 +1,5 @@
 -- The active command where another one waits after it.
+-- for: crates above
 use Rattle.std.specs.Prelude.{◌≡◌, refl, Bool, true, false, ◌||◌, Option, Some, None, is_none, List, [], if◌then◌else◌}
 use Rattle.buffer_modes.specs.Queue.{Commands, behind}
 use Rattle.command_pool.specs.declared.wanted.Wanted.{Wanted}

@@ -1,4 +1,5 @@
 -- An instance whose commands are taken away, and the others.
+-- for: owners_are_taken_away
 use Rattle.std.specs.Prelude.{◌≡◌, refl, ℕ, Bool, true, false, nat_eq, Option, Some, None, List, [], ◌∷◌, if◌then◌else◌, map}
 use Rattle.std.proofs.Common.{sym, ◌∙◌, ap, arith}
 use Rattle.std.proofs.lemmas.Bool.{eqb-true}

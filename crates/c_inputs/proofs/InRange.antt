@@ -1,4 +1,5 @@
 -- What a struct gives is in range exactly where the inputs in it are those of the kind.
+-- for: given_inputs_are_in_range
 use Rattle.std.proofs.Common.{◌≡◌, ℕ, zero, suc, ◌-◌, ◌<◌, ◌≤◌, Bool, true, false, ℤ, List, [], ◌∷◌, ◌++◌, length, take, refl, arith, inl, inr, lit≤}
 use Rattle.std.specs.Prelude.{pos, replicate, slice_index_or, unsigned_abs, if◌then◌else◌, Some}
 use Rattle.std.proofs.lemmas.Bool.{cases_lt}

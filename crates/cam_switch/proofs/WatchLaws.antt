@@ -1,4 +1,5 @@
 -- Switches go on by one cycle more.
+-- for: watches_go_on
 use Rattle.std.proofs.Common.{◌≡◌, ℕ, zero, suc, Some, List, [], ◌∷◌, ◌++◌, take, refl, ap, sym, ◌∙◌}
 use Rattle.std.specs.Prelude.{slice_get}
 use Rattle.axis_state.specs.declared.definition.AxisRow.{AxisRow}

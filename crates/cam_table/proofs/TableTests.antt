@@ -1,4 +1,5 @@
 -- The test of points and what a cam table keeps.
+-- for: cam_tables_are_told
 use Rattle.std.proofs.Common.{◌≡◌, refl, ℕ, zero, suc, ◌-◌, ◌<◌, ◌≤◌, ℤ, ◌<ℤ◌, true, false, Bool, List, length, ◌&&◌, ◌||◌, inl, inr, arith, subst}
 use Rattle.std.specs.Prelude.{nat_le, int_lt, ◌↔◌}
 use Rattle.std.proofs.lemmas.Bool.{and_parts, cases_Bool, cases_eq, leb-false, leb-true, le-leb}

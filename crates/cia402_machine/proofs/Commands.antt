@@ -1,4 +1,5 @@
 -- The kernel's controlwords bring a drive to Operation enabled, and out of Fault.
+-- for: commanded_drives_become_enabled, fault_resets_leave_fault
 use Rattle.std.specs.Prelude.{ℕ, suc, ◌≡◌, ◌≤◌, Bool, true, false, not, ◌&&◌, List, [], ◌∷◌, length, Some, if◌then◌else◌}
 use Rattle.std.proofs.Common.{refl, ◌∙◌, ap, arith}
 use Rattle.cia402_machine.specs.Statusword.{state_of_word, status_of_state}

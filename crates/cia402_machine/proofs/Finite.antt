@@ -1,4 +1,5 @@
 -- Tests of all numbers below a bound, and the numbers of states and commands.
+-- for: state_of, commanded_drives_become_enabled, fault_resets_leave_fault
 use Rattle.std.specs.Prelude.{ℕ, zero, suc, ◌≡◌, ◌<◌, Bool, true, false, ◌&&◌, [], ◌∷◌, Option, None, Some, slice_index_or}
 use Rattle.std.proofs.Common.{arith, ap, sym, ◌∙◌, refl, inl, inr}
 use Rattle.std.proofs.lemmas.Bool.{cases_eq, and_parts}

@@ -1,4 +1,5 @@
 -- The command that a controlword gives: by its bits one after the other, and by the patterns.
+-- for: commanded_drives_become_enabled, fault_resets_leave_fault
 use Rattle.std.specs.Prelude.{ℕ, ◌≡◌, ◌<◌, ◌≤◌, ◌^◌, ◌%◌, ◌&&◌, ◌==◌, ◌↔◌, Bool, true, false, not, List, [], ◌∷◌, length, Option, None, Some, if◌then◌else◌, bit_and, IsTrue}
 use Rattle.std.proofs.Common.{ap, sym, ◌∙◌, refl, eq-eqb, lit<, lit≤}
 use Rattle.std.proofs.lemmas.Bool.{eqb-true}

@@ -1,4 +1,5 @@
 -- What the lower bits of a word give is reported by the word without its higher bits.
+-- for: state_of, commanded_drives_become_enabled, fault_resets_leave_fault
 use Rattle.std.specs.Prelude.{ℕ, ◌≡◌, ◌<◌, ◌≤◌, ◌+◌, ◌*◌, ◌/◌, ◌%◌, ◌^◌, ◌&&◌, List, [], ◌∷◌, length, bit_and}
 use Rattle.std.specs.Int.{bit_at}
 use Rattle.std.proofs.Common.{arith, ap, sym, ◌∙◌, refl}

@@ -1,4 +1,5 @@
 -- A step makes one transition at most, and a fault comes first.
+-- for: steps_are_single_transitions
 use Rattle.std.specs.Prelude.{ℕ, zero, suc, ◌≡◌, ◌<◌, Bool, true, false, List, [], ◌∷◌, length, Option, None, Some, Contains}
 use Rattle.std.specs.Option.{unwrap_or}
 use Rattle.std.proofs.Common.{refl, ◌⊎◌, inl, inr, arith}

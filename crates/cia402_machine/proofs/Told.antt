@@ -1,4 +1,5 @@
 -- The state that a statusword gives: by its masked bits, and by the patterns.
+-- for: state_of
 use Rattle.std.specs.Prelude.{ℕ, ◌≡◌, ◌<◌, ◌≤◌, ◌^◌, ◌%◌, ◌==◌, ◌↔◌, Bool, true, false, List, [], ◌∷◌, length, Option, None, Some, if◌then◌else◌, bit_and, IsTrue}
 use Rattle.std.proofs.Common.{ap, sym, ◌∙◌, refl, eq-eqb, lit<, lit≤}
 use Rattle.std.proofs.lemmas.Bool.{eqb-true}

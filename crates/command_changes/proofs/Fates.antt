@@ -1,4 +1,5 @@
 -- A fate that ends and begins as changes do is what becomes of the active command by them.
+-- for: axis_fates_are_told, axis_changes_are_made, group_fates_are_told and others
 use Rattle.std.specs.Prelude.{◌≡◌, refl, Option, Some, None, List, [], ◌∷◌, ◌++◌}
 use Rattle.std.proofs.Common.{◌∙◌, ap, sym, subst}
 use Rattle.buffer_modes.specs.Fates.{Fate, goes_on}

@@ -1,5 +1,3 @@
 -- The changes of a group.
-pub mod Made
-pub mod Brought
-pub mod Fates
-pub mod Fits
+pub mod Calls
+pub mod Cycles

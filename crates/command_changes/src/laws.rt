@@ -27,7 +27,7 @@ pub fn group_changes_are_made()
 pub fn axis_fates_are_told()
     ensures { AreAxisFates }
 {
-    axis_changes_are_made();
+    changes_follow_one_another();
     changes_make_fates();
     owners_are_taken_away();
 }
@@ -37,7 +37,7 @@ pub fn axis_fates_are_told()
 pub fn group_fates_are_told()
     ensures { AreGroupFates }
 {
-    group_changes_are_made();
+    changes_follow_one_another();
     changes_make_fates();
     owners_are_taken_away();
 }

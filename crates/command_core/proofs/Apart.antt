@@ -1,4 +1,5 @@
 -- Owners stay apart.
+-- for: owners_stay_apart
 use Rattle.std.specs.Prelude.{◌≡◌, ℕ, ◌+◌, ◌≤◌, List, []}
 use Rattle.std.proofs.Common.{ap, subst, arith, inl, inr}
 use Rattle.std.proofs.lemmas.Bool.{cases_eq, ne_eqb}

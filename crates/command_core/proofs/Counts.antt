@@ -1,4 +1,5 @@
 -- Of each instance no more commands wait or are active than before and those that are brought.
+-- for: commands_come_from_calls
 use Rattle.std.specs.Prelude.{◌≡◌, ◌≤◌, refl, ℕ, ◌+◌, Bool, true, false, nat_eq, ℤ, Option, Some, None, List, [], ◌∷◌, ◌++◌, if◌then◌else◌}
 use Rattle.std.proofs.Common.{ap, arith}
 use Rattle.buffer_modes.specs.Laws.{AreOwners, AreTakenAway}

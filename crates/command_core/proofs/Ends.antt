@@ -1,4 +1,5 @@
 -- How the command of an instance ends by what it is given.
+-- for: changes_make_fates
 use Rattle.std.specs.Prelude.{◌≡◌, refl, ℕ, zero, suc, ◌<◌, ◌≤◌, true, false, nat_eq, if◌then◌else◌, Option, Some, None, List, [], ◌∷◌, length, slice_index_or}
 use Rattle.std.proofs.Common.{◌∙◌, ap, arith, inl, inr}
 use Rattle.std.proofs.lemmas.Bool.{cases_Bool, eq-eqb, eqb-true}

@@ -1,4 +1,5 @@
 -- A change makes of the active command what its fate says, and its owner is notified how it ends.
+-- for: changes_make_fates
 use Rattle.std.specs.Prelude.{◌≡◌, ◌≢◌, refl, Bool, true, false, ◌||◌, ℤ, Option, Some, None, is_none, List, [], ◌∷◌, ◌++◌, if◌then◌else◌}
 use Rattle.std.specs.List.{Contains}
 use Rattle.std.proofs.Common.{◌∙◌, sym, subst, arith}

@@ -1,4 +1,5 @@
 -- Who holds stopping after some changes held it before, or has a command before or brings one.
+-- for: holders_have_commands
 use Rattle.std.specs.Prelude.{◌≡◌, refl, ℕ, ◌+◌, ◌<◌, ◌⊎◌, true, false, ℤ, Option, Some, None, List, [], ◌∷◌, ◌++◌}
 use Rattle.std.proofs.Common.{ap, arith, inl, inr}
 use Rattle.std.proofs.lemmas.Bool.{eq-eqb}

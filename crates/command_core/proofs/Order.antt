@@ -1,4 +1,5 @@
 -- Changes one after another, and the active command where one joins.
+-- for: changes_make_fates
 use Rattle.std.specs.Prelude.{◌≡◌, refl, Bool, true, false, ◌||◌, ℤ, Option, Some, None, is_none, List, [], ◌∷◌, ◌++◌, if◌then◌else◌}
 use Rattle.std.proofs.Common.{ap, sym, ◌∙◌}
 use Rattle.std.proofs.lemmas.List.{append-nil, append_assoc}

@@ -1,4 +1,5 @@
 -- An instance is notified of the end of each command that it has, once.
+-- for: holders_have_commands, changes_make_fates, owners_stay_apart and others
 use Rattle.std.specs.Prelude.{◌≡◌, refl, ℕ, ◌+◌, Bool, true, false, nat_eq, ℤ, Option, Some, None, List, [], ◌∷◌, ◌++◌, if◌then◌else◌}
 use Rattle.std.proofs.Common.{ap, arith, ◌∙◌}
 use Rattle.buffer_modes.specs.Laws.{AreOwners, AreTakenAway}

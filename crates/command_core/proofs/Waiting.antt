@@ -1,4 +1,5 @@
 -- At most eight commands wait.
+-- for: at_most_eight_wait
 use Rattle.std.specs.Prelude.{◌≡◌, refl, suc, ◌≤◌, Bool, true, false, not, ◌&&◌, nat_eq, ℤ, Option, Some, None, is_some, List, [], ◌∷◌, ◌++◌, length, if◌then◌else◌}
 use Rattle.std.proofs.Common.{ap, subst, arith, inl, inr}
 use Rattle.std.proofs.lemmas.Bool.{cases_eq}

@@ -1,4 +1,5 @@
 -- Records that are linked anew, where their places stand in one list alone.
+-- for: add, copy_from, detach and others
 use Rattle.std.proofs.Common.{◌≡◌, refl, sym, ap, ℕ, zero, suc, ◌<◌, ◌≤◌, List, [], ◌∷◌, ◌++◌, length, map, get_or, set, arith, add-one}
 use Rattle.std.proofs.Math.ListN.{get_or-map}
 use Rattle.std.proofs.lemmas.Bool.{ne_eqb}

@@ -1,4 +1,5 @@
 -- Reading and writing one record of the array.
+-- for: add, command, copy_from and others
 use Rattle.std.proofs.Common.{◌≡◌, sym, ap, ◌∙◌, ℕ, ◌<◌, List, [], ◌∷◌, ◌++◌, length, get_or, set}
 use Rattle.std.proofs.lemmas.List.{get_or-map, map-set, map-append, set-get_or, length-map}
 use Rattle.command_pool.specs.declared.linking.Record.{Record}

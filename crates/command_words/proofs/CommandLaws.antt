@@ -1,4 +1,5 @@
 -- The commands find in plain words what the grammar does.
+-- for: asked
 use Rattle.std.proofs.Common.{◌≡◌, ◌∙◌, ap₂, inl, inr, subst, is_some, ℕ, Bool, true, false, refl, sym, ap, List, [], ◌∷◌, Option, Some, None, codes, true≢false}
 use Rattle.std.specs.Str.{bytes_eq}
 use Rattle.std.specs.Prelude.{◌==◌, not}

@@ -1,4 +1,5 @@
 -- Digits as the number that they write.
+-- for: asked
 use Rattle.std.proofs.Common.{◌≡◌, ℕ, true, ◌<◌, ◌≤◌, ◌^◌, List, length, Result, Err, rules, inl, inr, arith, ap, Option, Some, None, MatchOption}
 use Rattle.std.specs.Char.{is_ascii_digit}
 use Rattle.std.specs.List.{list_all}

@@ -1,4 +1,5 @@
 -- What the clauses of `clap` say of the commands that the words are read with.
+-- for: asked
 use Rattle.std.proofs.Common.{◌≡◌, ◌∙◌, true, refl, ap, ap₂, sym, List, [], ◌∷◌, None, ⊎_elim}
 use Rattle.std.specs.Prelude.{◌||◌}
 use Rattle.clap.specs.Words.{AddsSubcommand, App, HasKind, HasMatchesOf, Text, app_of, fault_of, is_simple, is_simple_and_free, kind_of, subcommand_of, subcommand_rows_of, with_subcommand}

@@ -1,4 +1,5 @@
 -- What is left of a text's records.
+-- for: written_records_are_read_back
 use Rattle.std.specs.Prelude.{◌≡◌, refl, ℕ, zero, suc, ◌<◌, ◌≤◌, Option, Some, None, All, List, [], ◌∷◌, length}
 use Rattle.std.specs.List.{AllByRecursion, flat_map}
 use Rattle.std.proofs.Common.{◌∙◌, sym, ap, arith, add-one, inl, inr}

@@ -1,4 +1,5 @@
 -- What a read of a record takes.
+-- for: field, next_record
 use Rattle.std.specs.Prelude.{◌≡◌, refl, ℕ, zero, suc, Bool, true, Option, Some, None, List, [], ◌∷◌, slice_index_or}
 use Rattle.std.proofs.Common.{◌∙◌, sym, subst, inl}
 use Rattle.csv.specs.Machine.{Read, next_record}

@@ -1,4 +1,5 @@
 -- A drive's answers, output by output.
+-- for: work_drive
 use Rattle.std.proofs.Common.{◌≡◌, suc, List, [], ◌∷◌, ◌++◌, length, Option, Some, None, refl, sym, ap, subst, ◌∙◌, arith}
 use mathlib.Core.List.{IsPrefix}
 use Rattle.std.specs.List.{last_or}

@@ -1,4 +1,5 @@
 -- Fault steps that rise, and a search among them.
+-- for: has_fault
 use Rattle.std.specs.Prelude.{ℕ, zero, suc, ◌≡◌, ◌≤◌, ◌<◌, Bool, true, false, ◌==◌, ◌||◌, List, [], ◌∷◌, length}
 use Rattle.std.proofs.Common.{arith, refl, get_or, eq-eqb, sym, inl, inr}
 use Rattle.std.proofs.lemmas.Bool.{cases_lt, cases_Bool, eqb-true}

@@ -1,4 +1,5 @@
 -- The lag of a simulated drive.
+-- for: lags_are_counted_in_kept_targets
 use Rattle.std.specs.Prelude.{ℕ, zero, suc, ◌≡◌, ◌≤◌, ◌<◌, ◌+◌, ◌-◌, nat_lt, ℤ, true, false, false, List, [], ◌∷◌, ◌++◌, length, map, drop, slice_index_or}
 use Rattle.std.proofs.Common.{arith, refl, ap, sym, ◌∙◌, inl, inr, append_assoc, append-nil, length-append, length-drop}
 use Rattle.std.proofs.lemmas.Bool.{cases_lt, cases_Bool, lt-ltb, ltb-true}

@@ -1,4 +1,5 @@
 -- A simulated drive over a list of outputs.
+-- for: answers_come_one_cycle_later
 use Rattle.std.specs.Prelude.{ℕ, zero, suc, ◌≡◌, ◌≤◌, ◌<◌, ◌+◌, ◌^◌, ℤ, Bool, true, false, List, [], ◌∷◌, length, take, slice_get, Some}
 use Rattle.std.proofs.Common.{arith, refl}
 use Rattle.cia402_machine.specs.declared.drive.DriveOut.{DriveOut}

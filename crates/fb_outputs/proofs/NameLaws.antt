@@ -1,4 +1,5 @@
 -- Each kind and each mode has a name of its own.
+-- for: names_are_read_back
 use Rattle.std.proofs.Common.{◌≡◌, refl, Some}
 use Rattle.command_pool.specs.declared.kind.BlockKind.{BlockKind}
 use Rattle.command_pool.specs.declared.kind.BlockKind.TheVariants as kind

@@ -1,4 +1,5 @@
 -- Each reply reports one result and one state, and an error's number.
+-- for: replies_tell_one_result
 use Rattle.std.proofs.Common.{◌≡◌, refl, Bool, true, false, ◌&&◌, List, [], ◌∷◌, arith}
 use Rattle.std.specs.Prelude.{if◌then◌else◌}
 use Rattle.std.specs.List.{AllByRecursion}

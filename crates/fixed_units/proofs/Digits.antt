@@ -1,4 +1,5 @@
 -- Texts of digits, their numbers, and how large these can be.
+-- for: read_units, write_units
 use Rattle.std.proofs.Common.{◌≡◌, ℕ, suc, ◌+◌, ◌-◌, ◌*◌, ◌^◌, ◌<◌, ◌≤◌, zero, true, List, length, take, get_or, sym, ap, ◌∙◌, arith, rules, add-one}
 use Rattle.std.proofs.Math.Nat.{pow-suc, mul-lt-mul_of_pos_right}
 use Rattle.std.proofs.lemmas.Nat.{pow-add}

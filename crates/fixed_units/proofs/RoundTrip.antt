@@ -1,4 +1,5 @@
 -- What is written is a number, and stands for what was written.
+-- for: write_units
 use Rattle.std.proofs.Common.{◌≡◌, ◌≢◌, ℕ, ◌+◌, ◌*◌, ◌/◌, ◌%◌, ◌^◌, ◌<◌, ◌≤◌, Bool, true, false, ◌==◌, List, [], ◌∷◌, ◌++◌, length, Some, None, ℤ, pos, negsuc, int_lt, unsigned_abs, decimal, inl, inr, refl, sym, subst, arith, length-append, append-nil, append_assoc}
 use Rattle.std.proofs.lemmas.Bool.{cases_eq, le-ltb, lt-ltb, and_parts}
 use Rattle.std.proofs.lemmas.Bool.Decides.{nat_tests}

@@ -1,4 +1,5 @@
 -- A number is read exactly where it is spelled.
+-- for: reads_what_is_spelled, reads_what_is_written, tells_the_first_fault
 use Rattle.std.proofs.Common.{◌≡◌, ◌↔◌, ◌<◌, Result, ℕ, ◌≤◌, ◌^◌, Bool, true, false, not, List, if◌then◌else◌, nat_lt, Ok, Err, ℤ, unsigned_abs, refl, sym, ap, ◌∙◌}
 use Rattle.std.proofs.lemmas.Bool.{le-ltb, lt-ltb, ltb-true, ltb-false}
 use Rattle.fixed_units.specs.declared.reading.UnitFault.{UnitFault}

@@ -1,4 +1,5 @@
 -- Quotients rounded down: what they keep, and how large they are.
+-- for: gears_keep_their_ratio, cam_position, cam_positions_lie_between_points
 use Rattle.std.proofs.Common.{◌≡◌, ℕ, suc, ◌+◌, ◌*◌, ◌<◌, ◌≤◌, arith, ℤ, pos, negsuc, ◌+ℤ◌, ◌*ℤ◌, ◌≤ℤ◌, ◌<ℤ◌, unsigned_abs}
 use Rattle.std.proofs.Math.Nat.{mul-le-mul_right, mul-le-mul_left, div-le_self}
 use Rattle.std.proofs.lemmas.Int.{ints, by_lt_z}

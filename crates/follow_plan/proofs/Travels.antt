@@ -1,4 +1,5 @@
 -- The differences of a gear add up.
+-- for: gears_keep_their_ratio
 use Rattle.std.proofs.Common.{◌≡◌, ℤ, List, [], ◌∷◌, arith}
 use Rattle.std.proofs.lemmas.Int.{ints}
 use Rattle.follow_plan.specs.Gear.{gear_difference_of, travel_of, end_of}

@@ -1,4 +1,5 @@
 -- A group keeps its axes.
+-- for: groups_keep_their_axes
 use Rattle.std.specs.Prelude.{◌≡◌, refl, ℕ, Bool, ◌||◌, ℤ, Option, Some, None, is_none, List, [], ◌∷◌}
 use Rattle.std.proofs.Common.{◌∙◌}
 use Rattle.axis_state.specs.declared.state.AxisState.{AxisState}

@@ -1,4 +1,5 @@
 -- Commands of a group come to their end in time.
+-- for: courses_end_in_time
 use Rattle.std.specs.Prelude.{◌≡◌, refl, ℕ, zero, suc, ◌+◌, ◌/◌, ◌≤◌, Bool, true, false, not, ◌||◌, nat_eq, ℤ, pos, ◌≤ℤ◌, ◌-ℤ◌, unsigned_abs, Option, Some, None, is_none, is_some, List, if◌then◌else◌}
 use Rattle.std.specs.Int.{int_min}
 use Rattle.std.specs.Ordering.{int_eq}

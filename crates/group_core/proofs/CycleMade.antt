@@ -1,4 +1,5 @@
 -- A cycle, from what its parts made.
+-- for: cycle
 use Rattle.std.specs.Prelude.{◌≡◌, refl, ℕ, ◌+◌, ◌≤◌, Bool, not, ◌&&◌, nat_eq, ℤ, Option, Some, None, IfSome, List, ◌++◌, length}
 use Rattle.std.proofs.Common.{◌∙◌, sym, ap, subst, arith}
 use Rattle.std.proofs.lemmas.List.{length-append}

@@ -1,5 +1,6 @@
 -- What a call and a cycle leave of the command and the state of a group where a command ends, or
 -- none does.
+-- for: courses_end_in_time, paths_go_on_by_their_steps, lines_lead_to_their_targets and others
 use Rattle.std.specs.Prelude.{◌≡◌, refl, ◌⊎◌, ℕ, Bool, true, false, ℤ, Option, Some, None, List, [], ◌∷◌, ◌++◌, if◌then◌else◌}
 use Rattle.std.proofs.Common.{sym, ap, inl, inr, ◌∙◌}
 use Rattle.axis_state.specs.declared.state.AxisState.{AxisState}

@@ -1,4 +1,5 @@
 -- A group's error is 101 to 106 where those of its axes are.
+-- for: errors_are_those_of_axes
 use Rattle.std.specs.Prelude.{refl, ℕ, ℤ, Bool, Option, Some, None, List, [], ◌∷◌, not, ◌&&◌, nat_eq}
 use Rattle.std.proofs.Common.{arith}
 use Rattle.std.proofs.lemmas.Bool.{and_parts}

@@ -1,4 +1,5 @@
 -- What opening, a detachment and a GroupReset keep of a group.
+-- for: reset_cycle, detach, groups_stay_kept
 use Rattle.std.specs.Prelude.{◌≡◌, refl, ◌⊎◌, ℕ, Bool, true, false, ◌&&◌, Option, Some, None, is_some, List, [], ◌∷◌, map}
 use Rattle.std.specs.List.{list_any}
 use Rattle.std.proofs.Common.{◌∙◌, sym, ap, inl, inr}

@@ -1,4 +1,5 @@
 -- What the parts of a group keep: lines that begin, steps along a path, and what a state says.
+-- for: power_off, reset_cycle, detach and others
 use Rattle.std.specs.Prelude.{◌≡◌, refl, ℕ, ◌≤◌, ◌-◌, Bool, true, false, ℤ, pos, ◌≤ℤ◌, ◌+ℤ◌, ◌-ℤ◌, unsigned_abs, Option, Some, None, List}
 use Rattle.std.proofs.Common.{◌∙◌, sym, ap, subst, arith, inl, inr}
 use Rattle.std.proofs.lemmas.Bool.{cases_lt}

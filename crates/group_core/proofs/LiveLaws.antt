@@ -1,4 +1,5 @@
 -- When the axes of a group stand within their limits.
+-- for: groups_come_alive_by_enable_and_reset
 use Rattle.std.specs.Prelude.{◌≡◌, refl, ◌⊎◌, ℕ, Bool, true, false, not, ◌&&◌, ◌||◌, nat_eq, ℤ, Option, Some, None, is_none, List}
 use Rattle.std.specs.List.{list_any}
 use Rattle.std.proofs.Common.{◌∙◌, sym, ap, inl, inr}

@@ -1,4 +1,5 @@
 -- The axes of a group keep their limits along its path.
+-- for: members_keep_their_limits, courses_end_in_time, paths_go_on_by_their_steps and others
 use Rattle.std.specs.Prelude.{◌≡◌, refl, ℕ, ◌<◌, not, ◌&&◌, nat_eq, ℤ, pos, ◌≤ℤ◌, Option, Some, List}
 use Rattle.std.proofs.Common.{◌∙◌, sym, ap, subst, arith}
 use Rattle.std.proofs.lemmas.Int.{ints}

@@ -1,4 +1,5 @@
 -- A command that is not refused: none of the reasons of its kind holds.
+-- for: power_off, reset_cycle, detach and others
 use Rattle.std.specs.Prelude.{◌≡◌, refl, ℕ, zero, suc, ◌<◌, Bool, true, false, ℤ, pos, int_lt, Option, Some, None, List, [], ◌∷◌, if◌then◌else◌}
 use Rattle.std.proofs.Common.{arith, sym, inl, inr, subst}
 use Rattle.std.proofs.lemmas.Bool.{cases_eq, or_parts}

@@ -1,4 +1,5 @@
 -- Where a path begins in a call.
+-- for: members_keep_their_limits
 use Rattle.std.specs.Prelude.{◌≡◌, refl, ◌⊎◌, ℕ, ◌<◌, Bool, true, false, not, ◌&&◌, ◌||◌, ℤ, Option, Some, None, is_none, List, if◌then◌else◌}
 use Rattle.std.proofs.Common.{◌∙◌, sym, ap, subst, arith, inl, inr}
 use Rattle.buffer_modes.specs.Queue.{is_aborting}

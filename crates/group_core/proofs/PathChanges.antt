@@ -1,4 +1,5 @@
 -- How the path of a group changes in a call and in a cycle.
+-- for: paths_change_by_commands
 use Rattle.std.specs.Prelude.{◌≡◌, refl, ◌⊎◌, Bool, true, false, not, ◌&&◌, ◌||◌, ℤ, Option, Some, None, is_none, is_some, Result, Ok, if◌then◌else◌}
 use Rattle.std.proofs.Common.{◌∙◌, sym, ap, inl, inr}
 use Rattle.buffer_modes.specs.Queue.{is_aborting}

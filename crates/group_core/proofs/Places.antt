@@ -1,4 +1,5 @@
 -- Where the axes stand on a path: each of the path at its place, the others where they stood.
+-- for: members_keep_their_limits, groups_stay_kept, courses_end_in_time and others
 use Rattle.std.specs.Prelude.{◌≡◌, ◌≢◌, refl, ℕ, zero, suc, ◌<◌, ◌≤◌, ℤ, List, [], ◌∷◌, length, slice_set}
 use Rattle.std.proofs.Common.{◌∙◌, ap, sym, arith, inl, inr}
 use Rattle.std.proofs.lemmas.Bool.{cases_eq}

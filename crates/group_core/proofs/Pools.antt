@@ -1,4 +1,5 @@
 -- The other lists of a pool, where one was changed twice.
+-- for: command
 use Rattle.std.specs.Prelude.{◌≡◌, refl, ℕ, zero, suc, ◌<◌, [], ◌∷◌, Result, Ok, Err, OnOk, OnErr, List, length, slice_set}
 use Rattle.std.proofs.Common.{◌∙◌, ap, sym, arith}
 use Rattle.std.proofs.lemmas.List.{set-set}

@@ -1,4 +1,5 @@
 -- A group shows its error and its GroupStop truly.
+-- for: errors_stand_in_error_stop, errors_are_those_of_axes
 use Rattle.std.specs.Prelude.{◌≡◌, ◌≢◌, refl, ◌⊎◌, ℕ, Bool, true, false, not, ◌&&◌, ◌||◌, nat_eq, ℤ, Option, Some, None, is_none, List, [], ◌∷◌, ◌++◌}
 use Rattle.std.proofs.Common.{◌∙◌, sym, ap, subst, arith}
 use Rattle.std.proofs.lemmas.Bool.{and_parts, not-false}

@@ -1,5 +1,7 @@
 -- How a cycle takes an active command on: by its step, or to its end.
+-- for: courses_end_in_time, paths_go_on_by_their_steps, lines_lead_to_their_targets
 use Rattle.std.specs.Prelude.{◌≡◌, ◌↔◌, refl, Bool, true, false, not, ◌&&◌, ℤ, pos, Option, Some, None, is_some, List, if◌then◌else◌}
+use Rattle.std.specs.Int.{int_min}
 use Rattle.std.specs.Ordering.{int_eq}
 use Rattle.std.proofs.Common.{◌∙◌, sym, ap, subst}
 use Rattle.std.proofs.lemmas.Bool.{and_right}
@@ -10,7 +12,10 @@ use Rattle.command_pool.specs.declared.kind.BlockKind.TheVariants as kind
 use Rattle.command_pool.specs.declared.wanted.Wanted.{Wanted}
 use Rattle.group_state.specs.declared.state.GroupState.{GroupState}
 use Rattle.group_state.specs.declared.state.GroupState.TheVariants as state
+use Rattle.kin_core.specs.Taken.{taken_step_of}
+use Rattle.kin_core.specs.Toward.{toward_zero}
 use Rattle.kin_core.specs.declared.limits.Limits.{Limits}
+use Rattle.trapezoid_plan.specs.MoveRun.{halt_taken_of}
 use Rattle.group_core.specs.Calls.{asked_in, commanded, commanded_by}
 use Rattle.group_core.specs.Cores.{Core}
 use Rattle.group_core.specs.Courses.{Leads, is_line_done, is_slowing}
@@ -20,7 +25,7 @@ use Rattle.group_core.specs.GroupKept.{IsCoreKept, fits}
 use Rattle.group_core.specs.Kinds.{ending_by, step_by}
 use Rattle.group_core.specs.Refusals.{limits_in, refusal_of}
 use Rattle.group_core.specs.States.{is_error_stop, is_stopping}
-use Rattle.group_core.specs.Tracks.{OnPath, braking_step_of, is_moving, line_step_of, moved_by, places_at}
+use Rattle.group_core.specs.Tracks.{OnPath, braking_step_of, is_moving, line_step_of, moved_by, old_step_of, places_at}
 use Rattle.buffer_modes.specs.Owners.{is_released}
 use Rattle.group_core.specs.blocks.Halts.{leaves_stopping}
 use Rattle.group_core.specs.declared.group.Group.{Group}
@@ -82,18 +87,16 @@ as-done o p b e f = (λ h. (done-where b).0 (sym (e ∙ f) ∙ h), λ h. (e ∙ 
 line-leads : (members : GroupLook) (c : Core) (p : OnPath) (w : Wanted) (k : BlockKind) → k ≡ kind.MoveLinearAbsolute →
     path_taken members c ≡ Some (record p { motion = moved_by (step_by k w p.motion) p.motion }) →
     (cycle_fate members c).ends ≡ ending_by k p.motion (step_by k w p.motion) →
-    Leads (line_step_of w.rates p.motion) (is_line_done p.motion (line_step_of w.rates p.motion)) p.motion (cycle_fate members c) (path_taken members c)
+    Leads (line_step_of w.rates p.motion) (is_line_done p.motion (line_step_of w.rates p.motion)) p (cycle_fate members c) (path_taken members c)
 line-leads members c p w k e f g = record {
-  on = record p { motion = moved_by (line_step_of w.rates p.motion) p.motion };
   path = subst (λ (l : BlockKind). path_taken members c ≡ Some (record p { motion = moved_by (step_by l w p.motion) p.motion })) e f;
-  takes = refl;
   ends = as-done (cycle_fate members c).ends _ (is_line_done p.motion (line_step_of w.rates p.motion))
       (subst (λ (l : BlockKind). (cycle_fate members c).ends ≡ ending_by l p.motion (step_by l w p.motion)) e g) refl;
 }
 
 pub lines-lead : (members : GroupLook) (c : Core) (p : OnPath) (w : Wanted) → IsCoreKept (limits_in members) c → c.group.active ≡ Some w → w.kind ≡ kind.MoveLinearAbsolute →
     c.path ≡ Some p → is_failing members c ≡ false →
-    Leads (line_step_of w.rates p.motion) (is_line_done p.motion (line_step_of w.rates p.motion)) p.motion (cycle_fate members c) (path_taken members c)
+    Leads (line_step_of w.rates p.motion) (is_line_done p.motion (line_step_of w.rates p.motion)) p (cycle_fate members c) (path_taken members c)
 lines-lead members c p w k e l on h =
     let runs = active-runs (limits_in members) c w k e in
     line-leads members c p w w.kind l (path-by members c p w h runs on e) (cycle-ends members c p w h runs on e)
@@ -101,27 +104,29 @@ lines-lead members c p w k e l on h =
 halt-leads : (members : GroupLook) (c : Core) (p : OnPath) (w : Wanted) (k : BlockKind) → is_slowing k ≡ true →
     path_taken members c ≡ Some (record p { motion = moved_by (step_by k w p.motion) p.motion }) →
     (cycle_fate members c).ends ≡ ending_by k p.motion (step_by k w p.motion) →
-    Leads (braking_step_of w.rates.d p.motion) (int_eq (braking_step_of w.rates.d p.motion) (pos 0)) p.motion (cycle_fate members c) (path_taken members c)
+    Leads (braking_step_of w.rates.d p.motion) (int_eq (braking_step_of w.rates.d p.motion) (pos 0)) p (cycle_fate members c) (path_taken members c)
 halt-leads members c p w kind.GroupHalt e f g = record {
-  on = record p { motion = moved_by (braking_step_of w.rates.d p.motion) p.motion };
   path = f;
-  takes = refl;
   ends = as-done (cycle_fate members c).ends _ (int_eq (braking_step_of w.rates.d p.motion) (pos 0)) g refl;
 }
 halt-leads members c p w kind.GroupStop e f g = record {
-  on = record p { motion = moved_by (braking_step_of w.rates.d p.motion) p.motion };
   path = f;
-  takes = refl;
   ends = as-done (cycle_fate members c).ends _ (int_eq (braking_step_of w.rates.d p.motion) (pos 0)) g refl;
 }
 halt-leads members c p w _ e f g = absurd (cc)
 
 pub halts-lead : (members : GroupLook) (c : Core) (p : OnPath) (w : Wanted) → IsCoreKept (limits_in members) c → c.group.active ≡ Some w → is_slowing w.kind ≡ true →
     c.path ≡ Some p → is_failing members c ≡ false →
-    Leads (braking_step_of w.rates.d p.motion) (int_eq (braking_step_of w.rates.d p.motion) (pos 0)) p.motion (cycle_fate members c) (path_taken members c)
+    Leads (braking_step_of w.rates.d p.motion) (int_eq (braking_step_of w.rates.d p.motion) (pos 0)) p (cycle_fate members c) (path_taken members c)
 halts-lead members c p w k e l on h =
     let runs = active-runs (limits_in members) c w k e in
     halt-leads members c p w w.kind l (path-by members c p w h runs on e) (cycle-ends members c p w h runs on e)
+
+-- the step that brakes a path is the taken one toward 0, by the deceleration, cut to the path's
+pub braking-step-is : (d : ℤ) (m : Motion) → braking_step_of d m ≡ taken_step_of m.limits m.previous m.place
+    (toward_zero (old_step_of m) (int_min d m.limits.dmax))
+unfolding halt_taken_of
+braking-step-is d m = refl
 
 -- in GroupErrorStop
 error-step : (g : Group) (m : Motion) → is_error_stop g.state ≡ true → (advanced g m).motion ≡ moved_by (braking_step_of m.limits.dmax m) m

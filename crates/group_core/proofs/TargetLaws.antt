@@ -1,4 +1,5 @@
 -- A line leads to its targets.
+-- for: lines_lead_to_their_targets
 use Rattle.std.specs.Ordering.{int_eq}
 use Rattle.std.specs.Prelude.{◌+ℤ◌, ◌<◌, length, ◌≤◌, ◌≡◌, refl, ℕ, Bool, true, false, ◌&&◌, ◌||◌, not, nat_eq, ℤ, pos, unsigned_abs, Option, Some, None, is_none, List, [], ◌∷◌, if◌then◌else◌}
 use Rattle.std.proofs.Common.{arith, ap, sym, subst, ◌∙◌, inl, inr}
@@ -377,22 +378,22 @@ unfolding advanced
 last_step g w m a e = last_if (is_error_stop g.state) g w m a e
 
 -- an active command has a group that lives
-alive : (s : GroupState) (p : Option OnPath) (active : Option Wanted) (w : Wanted) →
+pub lives-active : (s : GroupState) (p : Option OnPath) (active : Option Wanted) (w : Wanted) →
     IsInState s p active → active ≡ Some w → (is_within s ≡ true) × (may_fail s ≡ true)
-alive state.GroupDisabled p active w h a =
+lives-active state.GroupDisabled p active w h a =
     absurd (let n = h.idle in let x : None ≡ Some w = sym n ∙ a in cc)
-alive state.GroupStandby p active w h a =
+lives-active state.GroupStandby p active w h a =
     absurd (let n = h.idle in let x : None ≡ Some w = sym n ∙ a in cc)
-alive state.GroupMoving p active w h a = (refl, refl)
-alive state.GroupHoming p active w h a = elim h [ ]
-alive state.GroupStopping p active w h a = (refl, refl)
-alive state.GroupErrorStop p active w h a = absurd (let x : None ≡ Some w = sym h ∙ a in cc)
+lives-active state.GroupMoving p active w h a = (refl, refl)
+lives-active state.GroupHoming p active w h a = elim h [ ]
+lives-active state.GroupStopping p active w h a = (refl, refl)
+lives-active state.GroupErrorStop p active w h a = absurd (let x : None ≡ Some w = sym h ∙ a in cc)
 
-no_error : (error : ℕ) (none may : Bool) → nat_eq error 0 ≡ none → may ≡ true →
+pub no-error : (error : ℕ) (none may : Bool) → nat_eq error 0 ≡ none → may ≡ true →
     (not none && may) ≡ false → error ≡ 0
-no_error error true may z m e = eqb-true error 0 z
-no_error error false true z m e = absurd (cc)
-no_error error false false z m e = absurd (cc)
+no-error error true may z m e = eqb-true error 0 z
+no-error error false true z m e = absurd (cc)
+no-error error false false z m e = absurd (cc)
 
 done_on : (members : GroupLook) (c : Core) (w : Wanted) (o : Option OnPath) → c.path ≡ o →
     IsCoreKept (limits_in members) c → c.group.active ≡ Some w →
@@ -401,7 +402,7 @@ done_on members c w None at kept active fine done = absurd (cc)
 done_on members c w (Some p) at kept active fine done =
     let q : OnPath = record p { motion = (advanced c.group p.motion).motion } in
     let last = last_step c.group w p.motion active done in
-    let lives = alive c.group.state c.path c.group.active w kept.state active in
+    let lives = lives-active c.group.state c.path c.group.active w kept.state active in
     record {
       before = p;
       after = q;
@@ -411,7 +412,7 @@ done_on members c w (Some p) at kept active fine done =
       same = step_same c.group p;
       rests = last.rests;
       ends = last.ends;
-      fine = no_error members.error (nat_eq members.error 0) (may_fail c.group.state) refl lives.1
+      fine = no-error members.error (nat_eq members.error 0) (may_fail c.group.state) refl lives.1
           fine;
       within = lives.0;
     }

@@ -95,11 +95,11 @@ pub record BrakesOn (n : ℕ) (c : Core) : Type 0 where
 abbrev pub Braked : ℕ → Core → Type 0
 Braked n c = (c.path ≡ None) ⊎ BrakesOn n c
 
--- in a cycle the path takes this step, and the command is done exactly where this holds
-pub record Leads (step : ℤ) (done : Bool) (m : Motion) (f : Fate) (p : Option OnPath) : Type 0 where
-  pub on : OnPath
-  pub path : p ≡ Some on
-  pub takes : on.motion ≡ moved_by step m
+-- in a cycle the group goes on by this step on its path, and the command is done exactly where this
+-- holds
+pub record Leads (step : ℤ) (done : Bool) (p : OnPath) (f : Fate) (after : Option OnPath)
+    : Type 0 where
+  pub path : after ≡ Some (record p { motion = moved_by step p.motion })
   pub ends : (f.ends ≡ Some finish.Done) ↔ (done ≡ true)
 
 -- whether a line is done by a step: it stands at the end of its path, with step 0

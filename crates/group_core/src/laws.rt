@@ -99,14 +99,12 @@ pub fn paths_go_on_by_their_steps()
         IsCoreKept (limits_in members) c → c.group.active ≡ Some w →
         w.kind ≡ BlockKind.MoveLinearAbsolute → c.path ≡ Some p → is_failing members c ≡ false →
         Leads (line_step_of w.rates p.motion) (is_line_done p.motion
-        (line_step_of w.rates p.motion)) p.motion
-        (cycle_fate members c) (path_taken members c) }
+        (line_step_of w.rates p.motion)) p (cycle_fate members c) (path_taken members c) }
     ensures halts { (members : GroupLook) (c : Core) (p : OnPath) (w : Wanted) →
         IsCoreKept (limits_in members) c → c.group.active ≡ Some w →
         is_slowing w.kind ≡ true → c.path ≡ Some p → is_failing members c ≡ false →
         Leads (braking_step_of w.rates.d p.motion) (int_eq (braking_step_of w.rates.d p.motion)
-        (pos 0)) p.motion
-        (cycle_fate members c) (path_taken members c) }
+        (pos 0)) p (cycle_fate members c) (path_taken members c) }
     ensures errors { (members : GroupLook) (c : Core) (p : OnPath) → c.path ≡ Some p →
         is_error_stop (answered members.error c).group.state ≡ true →
         path_taken members c

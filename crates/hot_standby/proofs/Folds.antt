@@ -1,4 +1,5 @@
 -- Events made one after another.
+-- for: take, promote
 use Rattle.std.proofs.Common.{◌≡◌, List, [], ◌∷◌, ◌++◌, refl}
 use Rattle.motion_kernel.specs.KernelState.{KernelState}
 use Rattle.hot_standby.specs.Events.{AreFit, IsFit, kernel_after, kernel_after_all}

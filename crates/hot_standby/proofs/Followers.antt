@@ -1,4 +1,5 @@
 -- A standby goes on following.
+-- for: take, promote
 use Rattle.std.proofs.Common.{◌≡◌, List, [], ◌∷◌, ◌++◌, ap, sym, subst, ◌∙◌}
 use Rattle.motion_kernel.specs.KernelState.{KernelState}
 use Rattle.hot_standby.specs.Events.{AreFit, IsFit, kernel_after, kernel_after_all, opened}

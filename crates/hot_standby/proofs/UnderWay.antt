@@ -1,4 +1,5 @@
 -- Events that are made one after another, up to the first that doesn't fit.
+-- for: finish, promote
 use Rattle.std.proofs.Common.{◌≡◌, List, [], ◌∷◌, ◌++◌, refl, ap, sym, subst, ◌∙◌}
 use Rattle.std.proofs.lemmas.List.{append_assoc, append-nil}
 use Rattle.motion_kernel.specs.KernelState.{KernelState}

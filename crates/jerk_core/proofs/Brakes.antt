@@ -1,4 +1,5 @@
 -- Braking by cycles: what the least speed that may follow keeps, and that it comes to rest.
+-- for: braked, greatest_back, greatest_between and others
 use Rattle.std.proofs.Common.{inl, inr, ◌≡◌, ℕ, ◌+◌, ◌-◌, ◌*◌, ◌<◌, ◌≤◌, zero, suc, min, max, arith}
 use Rattle.std.proofs.lemmas.Bool.{cases_lt}
 use Rattle.motion_numbers.specs.Run.{run_of, reach_of}

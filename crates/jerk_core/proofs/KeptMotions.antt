@@ -1,5 +1,6 @@
 -- Kept motions ahead: braking keeps, and the safe speeds are those from the braked speed to a
 -- greatest one.
+-- for: greatest_back, greatest_between, greatest_fall_of and others
 use Rattle.std.proofs.Common.{inl, inr, ◌≡◌, ℕ, ◌+◌, ◌-◌, ◌*◌, ◌<◌, ◌≤◌, min, arith, ap}
 use Rattle.std.proofs.lemmas.Bool.{cases_lt}
 use Rattle.motion_numbers.specs.Run.{run_of, reach_of}

@@ -9,5 +9,6 @@ pub mod Triangles
 pub mod Phases
 pub mod Shares
 pub mod SafeSpeeds
+pub mod Spending
 pub mod Rests
 pub mod Searching

@@ -1,5 +1,6 @@
 -- The way to rest in closed form: a ramp in which the change of speed falls by j, falls by d, and
 -- the landing, in which each fall is the greatest that can be taken back.
+-- for: greatest_fall_of, is_ramp, ramp_cycles and others
 use Rattle.std.proofs.Common.{inl, inr, ◌≡◌, ℕ, ◌+◌, ◌-◌, ◌*◌, ◌/◌, ◌%◌, ◌<◌, ◌≤◌, zero, suc, min, arith, refl, ap}
 use Rattle.std.proofs.lemmas.Bool.{cases_lt}
 use Rattle.std.proofs.lemmas.Nat.{mul-le, div-add-mod', mod_below}

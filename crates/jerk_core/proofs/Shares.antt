@@ -1,4 +1,5 @@
 -- A speed shared into parts of j: whole falls by j, a rest, and what is left over.
+-- for: greatest_fall_of, way_of_landing
 use Rattle.std.proofs.Common.{inl, inr, ◌≡◌, ℕ, ◌+◌, ◌-◌, ◌*◌, ◌/◌, ◌%◌, ◌<◌, ◌≤◌, suc, arith}
 use Rattle.std.proofs.Math.Nat.{div-le_self}
 use Rattle.std.proofs.lemmas.Bool.{cases_lt}

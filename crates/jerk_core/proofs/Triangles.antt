@@ -1,4 +1,5 @@
 -- Triangles and tetrahedra in closed form, and how they grow.
+-- for: greatest_fall_of, is_ramp, landing_sum and others
 use Rattle.std.proofs.Common.{inl, inr, ◌≡◌, ℕ, ◌+◌, ◌-◌, ◌*◌, ◌/◌, ◌<◌, ◌≤◌, zero, suc, arith, refl, ap}
 use Rattle.std.proofs.lemmas.Bool.{cases_lt}
 use Rattle.std.proofs.lemmas.Nat.{mul-le}

@@ -1,5 +1,6 @@
 -- The way to rest: braking ends, its way is its first cycle's and the rest, and it is the shortest
 -- of all that may follow.
+-- for: greatest_back, greatest_between, greatest_fall_of and others
 use Rattle.std.proofs.Common.{inl, inr, ◌≡◌, ℕ, ◌+◌, ◌-◌, ◌*◌, ◌<◌, ◌≤◌, zero, suc, arith, refl, sym, ◌∙◌, ap}
 use Rattle.std.proofs.lemmas.Bool.{cases_lt}
 use Rattle.std.proofs.lemmas.Nat.{mul-le}

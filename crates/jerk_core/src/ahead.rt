@@ -10,8 +10,7 @@ use crate::looks::Looks;
 use crate::rates::JerkRates;
 use crate::reaching::greatest_fall;
 use motion_numbers::{MOST_STEP, way_fits};
-use std::marker::Brand;
-use std::sync::ledger::{Blank, Ledger};
+use std::sync::ledger::Ledger;
 
 /// Whether the motion with the speeds `last` and `speed` keeps the rates, and can keep them until
 /// it has come to rest within the room.
@@ -39,20 +38,28 @@ pub fn keeps(rates: &JerkRates, room: u64, last: u64, speed: u64) -> bool
 
 /// The greatest speed up to `most` that may follow the motion and leaves a kept one; where none
 /// does, the braked speed, which always does.
-pub fn greatest_safe(rates: &JerkRates, room: u64, last: u64, speed: u64, most: u64) -> u64
+pub fn greatest_safe<L: Ledger>(
+    rates: &JerkRates,
+    room: u64,
+    last: u64,
+    speed: u64,
+    most: u64,
+    looks: &mut Looks<L>,
+) -> u64
     requires rates { AreJerkRates rates.now }
     requires last { last ≤ 2 * MOST_STEP }
     requires kept { IsKeptBy rates.now room last speed }
     ensures safe { IsSafeBy rates.now room last speed result }
     ensures greatest { (x : ℕ) → IsSafeBy rates.now room last speed x → x ≤ most → x ≤ result }
     ensures within { result ≤ max most (braked_of rates.now.d rates.now.j last speed) }
+    ensures cost { looks.new ≤ looks.old + 74 }
 {
     let least = braked(rates.d, rates.j, last, speed);
     let top = fastest(rates, last, speed).min(most);
     if top <= least {
         least
     } else {
-        greatest_left(rates, room, speed, least, top)
+        greatest_left(rates, room, speed, least, top, looks)
     }
 }
 
@@ -70,7 +77,13 @@ fn fastest(rates: &JerkRates, last: u64, speed: u64) -> u64
 /// The greatest speed that may follow the motion and leaves a kept one, where the motion is kept;
 /// none where it isn't. The fastest speed is tried first: where it leaves a kept motion, that which
 /// it follows is kept too.
-pub fn safe_speed(rates: &JerkRates, room: u64, last: u64, speed: u64) -> Option<u64>
+pub fn safe_speed<L: Ledger>(
+    rates: &JerkRates,
+    room: u64,
+    last: u64,
+    speed: u64,
+    looks: &mut Looks<L>,
+) -> Option<u64>
     requires rates { AreJerkRates rates.now }
     requires last { last ≤ 2 * MOST_STEP }
     requires speed { speed ≤ MOST_STEP }
@@ -78,14 +91,16 @@ pub fn safe_speed(rates: &JerkRates, room: u64, last: u64, speed: u64) -> Option
     ensures safe { (x : ℕ) → result ≡ Some x → IsSafeBy rates.now room last speed x }
     ensures greatest { (x y : ℕ) → result ≡ Some x → IsSafeBy rates.now room last speed y → y ≤ x }
     ensures none { result ≡ None → IsKeptBy rates.now room last speed → ⊥ }
+    ensures cost { looks.new ≤ looks.old + 75 }
 {
     if !can_go_on(rates, last, speed) {
         return None;
     }
     let top = fastest(rates, last, speed);
-    if leaves_rest(rates, room, speed, top) {
+    if looks_ahead(rates, room, speed, top, looks) {
         return Some(top);
     }
+    looks.tick();
     if !rest_fits(rates.d, rates.j, last, speed, room) {
         return None;
     }
@@ -93,7 +108,7 @@ pub fn safe_speed(rates: &JerkRates, room: u64, last: u64, speed: u64) -> Option
     if top <= least {
         return Some(least);
     }
-    Some(greatest_between(rates, room, speed, least, top))
+    Some(greatest_between(rates, room, speed, least, top, looks))
 }
 
 // Whether the motion is kept in a room that its way to rest fits.
@@ -120,7 +135,14 @@ fn can_go_on(rates: &JerkRates, last: u64, speed: u64) -> bool
 
 /// The greatest speed from `least` up to `most` that leaves a kept motion after `speed`, where
 /// `least` leaves one, and `most` doesn't pass the rates.
-pub fn greatest_left(rates: &JerkRates, room: u64, speed: u64, least: u64, most: u64) -> u64
+pub fn greatest_left<L: Ledger>(
+    rates: &JerkRates,
+    room: u64,
+    speed: u64,
+    least: u64,
+    most: u64,
+    looks: &mut Looks<L>,
+) -> u64
     requires rates { AreJerkRates rates.now }
     requires speed { speed ≤ rates.now.v }
     requires order { least ≤ most }
@@ -131,61 +153,17 @@ pub fn greatest_left(rates: &JerkRates, room: u64, speed: u64, least: u64, most:
     ensures above { least ≤ result }
     ensures below { result ≤ most }
     ensures greatest { (x : ℕ) → IsLeftBy rates.now room speed x → x ≤ most → x ≤ result }
+    ensures cost { looks.new ≤ looks.old + 74 }
 {
-    if leaves_rest(rates, room, speed, most) {
+    if looks_ahead(rates, room, speed, most, looks) {
         return most;
     }
-    greatest_between(rates, room, speed, least, most)
+    greatest_between(rates, room, speed, least, most, looks)
 }
 
-// The same, where the greatest of them leaves none.
-fn greatest_between(rates: &JerkRates, room: u64, speed: u64, least: u64, most: u64) -> u64
-    requires rates { AreJerkRates rates.now }
-    requires speed { speed ≤ rates.now.v }
-    requires order { least < most }
-    requires gains { most ≤ speed + rates.now.a }
-    requires tops { most ≤ speed + reach_of (rates.now.v - speed) rates.now.j }
-    requires left { IsLeftBy rates.now room speed least }
-    requires fails { IsLeftBy rates.now room speed most → ⊥ }
-    ensures left { IsLeftBy rates.now room speed result }
-    ensures above { least ≤ result }
-    ensures below { result ≤ most }
-    ensures greatest { (x : ℕ) → IsLeftBy rates.now room speed x → x ≤ most → x ≤ result }
-{
-    between_from::<Brand>(rates, room, speed, least, most, Blank::new(1))
-}
-
-// The same for any ledger, whose counter nobody reads.
-fn between_from<L: Ledger>(
-    rates: &JerkRates,
-    room: u64,
-    speed: u64,
-    least: u64,
-    most: u64,
-    blank: Blank,
-) -> u64
-    requires name { blank.name ≡ L.name }
-    requires parts { blank.parts ≡ L.parts }
-    requires some { 0 < blank.parts }
-    requires rates { AreJerkRates rates.now }
-    requires speed { speed ≤ rates.now.v }
-    requires order { least < most }
-    requires gains { most ≤ speed + rates.now.a }
-    requires tops { most ≤ speed + reach_of (rates.now.v - speed) rates.now.j }
-    requires left { IsLeftBy rates.now room speed least }
-    requires fails { IsLeftBy rates.now room speed most → ⊥ }
-    ensures left { IsLeftBy rates.now room speed result }
-    ensures above { least ≤ result }
-    ensures below { result ≤ most }
-    ensures greatest { (x : ℕ) → IsLeftBy rates.now room speed x → x ≤ most → x ≤ result }
-{
-    let mut looks = Looks::<L>::open(blank);
-    greatest_between_counted(rates, room, speed, least, most, &mut looks)
-}
-
-/// The same, with its looks at the way to rest counted: a search first steps farther and farther
-/// from the least speed, and then halves.
-pub fn greatest_between_counted<L: Ledger>(
+/// The same, where the greatest of them leaves none: a search, which first steps farther and
+/// farther from the least speed, and then halves.
+pub fn greatest_between<L: Ledger>(
     rates: &JerkRates,
     room: u64,
     speed: u64,

@@ -1,15 +1,17 @@
 // Whether three setpoints are kept.
 
-ghost use Rattle.std.specs.Prelude.{◌≡◌, ◌↔◌, IsTrue, ◌≤ℤ◌};
+ghost use Rattle.std.specs.Prelude.{◌≡◌, ◌↔◌, IsTrue, ◌≤ℤ◌, ◌+◌};
 ghost use Rattle.jerk_core.specs.Rates.{AreJerkRates, IsKeptBy};
 ghost use Rattle.jerk_core.specs.Admissible.{AreJerkLimits, IsKeptByJerk};
 
 use crate::ahead::keeps;
 use crate::limits::JerkLimits;
+use crate::looks::Looks;
 use crate::motions::{Motion, Setpoints};
 use crate::rates::JerkRates;
 use crate::taking::{downward, rises, sizes, upward};
 use motion_numbers::MOST_STEP;
+use std::sync::ledger::Ledger;
 
 /// Whether the three setpoints lie within the limits, and the axis can be stopped after them with
 /// limited jerk.
@@ -27,6 +29,16 @@ pub fn is_kept(limits: &JerkLimits, at: &Setpoints) -> bool
     } else {
         false
     }
+}
+
+/// The same, counted: one look at the way to rest.
+pub fn is_kept_counted<L: Ledger>(limits: &JerkLimits, at: &Setpoints, looks: &mut Looks<L>) -> bool
+    requires limits { AreJerkLimits limits.now }
+    ensures value { IsTrue result ↔ IsKeptByJerk limits.now at.now.first at.now.before at.now.current }
+    ensures look { looks.new ≡ looks.old + 1 }
+{
+    looks.tick();
+    is_kept(limits, at)
 }
 
 // Whether the last setpoint lies within the limits.

@@ -16,9 +16,9 @@ mod rest;
 mod sums;
 mod taking;
 
-pub use ahead::{greatest_between_counted, greatest_left, greatest_safe, keeps, safe_speed};
+pub use ahead::{greatest_between, greatest_left, greatest_safe, keeps, safe_speed};
 pub use braking::{braked, rest_fits};
-pub use keeping::is_kept;
+pub use keeping::{is_kept, is_kept_counted};
 pub use laws::{
     kept_is_stoppable, kept_motions_go_on, kept_without_jerk, lesser_rates_are_kept,
     rest_can_be_left, safe_speeds_are_an_interval, standing_is_kept_by_jerk, ways_unfold,
@@ -29,4 +29,4 @@ pub use motions::{Motion, Setpoints};
 pub use rates::JerkRates;
 pub use reaching::greatest_fall;
 pub use rest::way_to_rest;
-pub use taking::nearest_safe;
+pub use taking::{nearest_safe, nearest_safe_counted};

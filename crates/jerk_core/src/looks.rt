@@ -4,7 +4,7 @@ ghost use Rattle.std.specs.Prelude.{◌≡◌, ℕ, ◌+◌, ◌<◌};
 use std::marker::Model;
 use std::sync::ledger::{Blank, Book, Ledger, Share};
 
-/// How many looks at the way to rest a search has taken so far.
+/// How many looks at the way to rest have been taken so far.
 #[derive(Drop)]
 pub struct Looks<L: Ledger> {
     book: Book<L>,

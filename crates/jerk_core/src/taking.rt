@@ -1,6 +1,6 @@
 // The step that an axis with limited jerk takes: the safe step nearest to the wanted one.
 
-ghost use Rattle.std.specs.Prelude.{◌≡◌, ◌↔◌, IsTrue, ℕ, ℤ, ◌+◌, ◌*◌, ◌≤◌, pos, neg_ℤ, ◌+ℤ◌, ◌-ℤ◌, ◌≤ℤ◌, unsigned_abs};
+ghost use Rattle.std.specs.Prelude.{◌≡◌, ◌↔◌, IsTrue, ℕ, ℤ, ◌+◌, ◌*◌, ◌<◌, ◌≤◌, pos, neg_ℤ, ◌+ℤ◌, ◌-ℤ◌, ◌≤ℤ◌, unsigned_abs};
 ghost use Rattle.motion_numbers.specs.Ranges.{IsStep};
 ghost use Rattle.jerk_core.specs.Rates.{AreJerkRates, IsKeptBy, IsLeftBy};
 ghost use Rattle.jerk_core.specs.Admissible.{AreJerkLimits, IsKeptByJerk, IsSafeByJerk, IsTakenByJerk, rates_of};
@@ -8,10 +8,13 @@ ghost use Rattle.jerk_core.specs.Taken.{IsSafeFrom, IsMotionUp, IsMotionDown};
 
 use crate::ahead::{greatest_left, greatest_safe};
 use crate::limits::JerkLimits;
+use crate::looks::Looks;
 use crate::motions::{Motion, Setpoints};
 use crate::rates::JerkRates;
 use crate::reaching::greatest_fall;
 use motion_numbers::{MOST_STEP, MOST_WAY};
+use std::marker::Brand;
+use std::sync::ledger::{Blank, Ledger};
 
 /// The safe step nearest to the `wanted` one after three setpoints. All are in internal units, and
 /// steps are signed; the wanted step is one where it is safe.
@@ -22,11 +25,43 @@ pub fn nearest_safe(limits: &JerkLimits, at: &Setpoints, wanted: i64) -> i64
     ensures taken { IsTakenByJerk limits.now at.now.first at.now.before at.now.current wanted result }
     ensures small { IsStep result }
 {
+    nearest_safe_by::<Brand>(limits, at, wanted, Blank::new(1))
+}
+
+// The same for any ledger, whose counter nobody reads.
+fn nearest_safe_by<L: Ledger>(limits: &JerkLimits, at: &Setpoints, wanted: i64, blank: Blank) -> i64
+    requires name { blank.name ≡ L.name }
+    requires parts { blank.parts ≡ L.parts }
+    requires some { 0 < blank.parts }
+    requires limits { AreJerkLimits limits.now }
+    requires kept { IsKeptByJerk limits.now at.now.first at.now.before at.now.current }
+    requires wanted_in_range { unsigned_abs wanted ≤ 2 * MOST_WAY }
+    ensures taken { IsTakenByJerk limits.now at.now.first at.now.before at.now.current wanted result }
+    ensures small { IsStep result }
+{
+    let mut looks = Looks::<L>::open(blank);
+    nearest_safe_counted(limits, at, wanted, &mut looks)
+}
+
+/// The same, with its looks at the way to rest counted.
+pub fn nearest_safe_counted<L: Ledger>(
+    limits: &JerkLimits,
+    at: &Setpoints,
+    wanted: i64,
+    looks: &mut Looks<L>,
+) -> i64
+    requires limits { AreJerkLimits limits.now }
+    requires kept { IsKeptByJerk limits.now at.now.first at.now.before at.now.current }
+    requires wanted_in_range { unsigned_abs wanted ≤ 2 * MOST_WAY }
+    ensures taken { IsTakenByJerk limits.now at.now.first at.now.before at.now.current wanted result }
+    ensures small { IsStep result }
+    ensures cost { looks.new ≤ looks.old + 74 }
+{
     let rates = sizes(limits);
     if rises(at) {
-        nearest_ahead(&rates, &upward(limits, at), wanted)
+        nearest_ahead(&rates, &upward(limits, at), wanted, looks)
     } else {
-        -nearest_ahead(&rates, &downward(limits, at), -wanted)
+        -nearest_ahead(&rates, &downward(limits, at), -wanted, looks)
     }
 }
 
@@ -92,7 +127,12 @@ pub(crate) fn downward(limits: &JerkLimits, at: &Setpoints) -> Motion
 }
 
 // The safe step nearest to the wanted one, both counted in the direction of the motion.
-fn nearest_ahead(rates: &JerkRates, motion: &Motion, wanted: i64) -> i64
+fn nearest_ahead<L: Ledger>(
+    rates: &JerkRates,
+    motion: &Motion,
+    wanted: i64,
+    looks: &mut Looks<L>,
+) -> i64
     requires rates { AreJerkRates rates.now }
     requires last { motion.now.last ≤ 2 * MOST_STEP }
     requires kept { IsKeptBy rates.now motion.now.ahead motion.now.last motion.now.speed }
@@ -100,6 +140,7 @@ fn nearest_ahead(rates: &JerkRates, motion: &Motion, wanted: i64) -> i64
     ensures nearest { (other : ℤ) → IsSafeFrom rates.now motion.now other →
         unsigned_abs (result -ℤ wanted) ≤ unsigned_abs (other -ℤ wanted) }
     ensures small { IsStep result }
+    ensures cost { looks.new ≤ looks.old + 74 }
 {
     if 0 <= wanted {
         greatest_safe(
@@ -108,24 +149,31 @@ fn nearest_ahead(rates: &JerkRates, motion: &Motion, wanted: i64) -> i64
             motion.last,
             motion.speed,
             wanted as u64,
+            looks,
         ) as i64
     } else if 0 < motion.speed {
-        greatest_safe(rates, motion.ahead, motion.last, motion.speed, 0) as i64
+        greatest_safe(rates, motion.ahead, motion.last, motion.speed, 0, looks) as i64
     } else {
-        -(greatest_back(rates, motion, wanted.unsigned_abs()) as i64)
+        -(greatest_back(rates, motion, wanted.unsigned_abs(), looks) as i64)
     }
 }
 
 // The greatest speed up to `most` by which a motion that stands may turn.
-fn greatest_back(rates: &JerkRates, motion: &Motion, most: u64) -> u64
+fn greatest_back<L: Ledger>(
+    rates: &JerkRates,
+    motion: &Motion,
+    most: u64,
+    looks: &mut Looks<L>,
+) -> u64
     requires rates { AreJerkRates rates.now }
     requires last { motion.now.last ≤ 2 * MOST_STEP }
     ensures left { IsLeftBy rates.now motion.now.behind 0 result }
     ensures bends { result ≤ motion.now.last + rates.now.j }
     ensures within { result ≤ most }
     ensures greatest { (x : ℕ) → IsLeftBy rates.now motion.now.behind 0 x → x ≤ motion.now.last + rates.now.j → x ≤ most → x ≤ result }
+    ensures cost { looks.new ≤ looks.old + 74 }
 {
     let fastest = greatest_fall(rates.v, rates.j, rates.a);
     let top = fastest.min(motion.last + rates.j).min(most);
-    greatest_left(rates, motion.behind, 0, 0, top)
+    greatest_left(rates, motion.behind, 0, 0, top, looks)
 }

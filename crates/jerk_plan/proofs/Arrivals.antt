@@ -1,390 +1,405 @@
--- Moves arrive within cycles counted by their rates: first at their fastest, then so near to
--- braking that what is left over is few cycles, and then braking.
-use Rattle.std.proofs.Common.{inl, inr, ◌≡◌, ℕ, ◌+◌, ◌-◌, ◌*◌, ◌<◌, ◌≤◌, zero, suc, min, arith, refl}
+-- Moves arrive within cycles counted by their rates: they speed up at their fastest, go at the
+-- greatest speed, turn to a fall as soon as their way slows them, and land.
+-- for: moves_arrive
+use Rattle.std.proofs.Common.{inl, inr, ◌≡◌, ℕ, ◌+◌, ◌-◌, ◌*◌, ◌<◌, ◌≤◌, zero, suc, min, arith}
 use Rattle.std.proofs.lemmas.Bool.{cases_lt}
-use Rattle.motion_numbers.specs.Run.{run_of, reach_of}
-use Rattle.motion_numbers.proofs.Runs.{run_unfold, run_mono}
-use Rattle.motion_numbers.proofs.Reaches.{reach_greatest, fits_below_reach}
+use Rattle.std.proofs.lemmas.Grind.{div_ceil_times}
+use Rattle.std.specs.Int.{div_ceil}
+use Rattle.motion_numbers.specs.Run.{reach_of}
 use Rattle.jerk_core.specs.declared.rates.JerkRates.{JerkRates}
-use Rattle.jerk_core.specs.Braking.{braked_of, way_of}
-use Rattle.jerk_core.specs.Rates.{AreJerkRates, IsKeptBy, IsLeftBy, IsSafeBy}
-use Rattle.jerk_core.proofs.Brakes.{braked_zero, IsBraked, braked_bounds, Bound, braked_is, reach_within, reach_mono, reach_some}
-use Rattle.jerk_core.proofs.Brakes.Bound.{by_fall, by_change, by_reach}
-use Rattle.jerk_core.proofs.Ways.{way_unfold, way_zero, way_below}
-use Rattle.jerk_core.proofs.Ways.IsBelow.{by_speeds}
-use Rattle.jerk_core.proofs.KeptMotions.{braked_safe, falls_within, safe_least, start_safe, kept_after}
-use Rattle.jerk_core.proofs.SafeSpeeds.{between_safe, below_fastest}
-use Rattle.jerk_core.proofs.Rests.{Rests, rests_in_way, rests_above, way_faster, brake_rests}
-use Rattle.jerk_plan.specs.Wanted.{IsMoveSpeed, IsArrivedWithin, slowed_of, halted_of}
-use Rattle.jerk_plan.proofs.Moves.{slowed_brakes}
+use Rattle.jerk_core.specs.Braking.{braked_of}
+use Rattle.jerk_core.specs.Rates.{AreJerkRates, IsKeptBy}
+use Rattle.jerk_core.proofs.Brakes.{reach_within, reach_some}
+use Rattle.jerk_core.proofs.KeptMotions.{safe_least, standing_kept}
+use Rattle.jerk_core.proofs.Spending.{IsUpWithin, IsDownWithin, up_up, up_down, up_falls, up_start, up_some, up_next, up_rates, down_some, down_next, lower}
+use Rattle.jerk_core.proofs.Rests.{Rests, reach_falls, up_rests, down_rests}
+use Rattle.jerk_plan.specs.Wanted.{IsMoveSpeed, IsArrivedWithin, move_cycles_of}
+use Rattle.jerk_plan.proofs.Units.{stop_arrives}
+use Rattle.jerk_plan.proofs.Tight.{slows, some, fastest_of, under_fastest, IsTight, tight_next, tight_tops, past_brake, flat_arrives, BrakesByChange, brakes_by_change, change_below}
 
--- positive rates
-slows : (rates : JerkRates) → AreJerkRates rates → 0 < rates.d
-slows rates ok = omega (arith, ok.d_least)
+-- where a move is once its way has slowed it, or once its change of speed is falling to reach the
+-- greatest speed: within n cycles of braking, l of the greatest speed, q of the landing's leftover
+data IsPhase (rates : JerkRates) (i q n l m way w v : ℕ) : Type 0 where
+  -- slowed by its way, and speeding up by a
+  rises : (a : ℕ) → v ≡ w + a → IsTight rates way w v → IsUpWithin n rates.v rates.d i a → way ≤ l * rates.v → n + l + q + 5 ≤ m → IsPhase rates i q n l m way w v
+  -- slowed by its way, and slowing by u and 1
+  falls : (u : ℕ) → w ≡ v + suc u → IsTight rates way w v → IsDownWithin n rates.d i v (suc u) → n + q + 4 ≤ m → IsPhase rates i q n l m way w v
+  -- just below the greatest speed, and speeding up by a and 1, which must fall by j from now on
+  tops : (a : ℕ) → v ≡ w + suc a → suc a ≡ reach_of (rates.v - w) rates.j → IsKeptBy rates way w v → IsUpWithin n rates.v rates.d i (suc a) → way ≤ l * rates.v →
+      n + l + q + 5 ≤ m → IsPhase rates i q n l m way w v
+  -- at the greatest speed
+  cruises : w ≡ rates.v → v ≡ rates.v → IsKeptBy rates way w v → IsUpWithin n rates.v rates.d i 0 → way ≤ l * rates.v → n + l + q + 4 ≤ m → IsPhase rates i q n l m way w v
 
-some : (rates : JerkRates) → AreJerkRates rates → 0 < rates.j
-some rates ok = omega (arith, ok.j_least)
+-- what comes after a speed: another phase, or what arrives
+data IsNext (rates : JerkRates) (i q m way w v : ℕ) : Type 0 where
+  goes_on : (n l : ℕ) → IsPhase rates i q n l m way w v → IsNext rates i q m way w v
+  arrives : IsArrivedWithin m rates way w v → IsNext rates i q m way w v
 
--- within more cycles too
-pub arrived_by : (m n : ℕ) (rates : JerkRates) (way w v : ℕ) → n ≤ m → IsArrivedWithin n rates way w v → IsArrivedWithin m rates way w v
-arrived_by zero n rates way w v h arrives = let none : n ≡ 0 = omega arith in rw none at arrives
-arrived_by (suc m) zero rates way w v h arrives = inl arrives
-arrived_by (suc m) (suc n) rates way w v h (inl arrived) = inl arrived
-arrived_by (suc m) (suc n) rates way w v h (inr later) = inr (λ x move. arrived_by m n rates (way - x) v x (omega arith) (later x move))
+-- a phase has arrived in time, or each speed leaves one that has a cycle less
+data IsStep (rates : JerkRates) (i q m way w v : ℕ) : Type 0 where
+  done : IsArrivedWithin (suc m) rates way w v → IsStep rates i q m way w v
+  steps : ((x : ℕ) → IsMoveSpeed rates way w v x → IsNext rates i q m (way - x) v x) → IsStep rates i q m way w v
 
--- standing at the target is arriving
-at_target : (m : ℕ) (rates : JerkRates) (way w v : ℕ) → way ≡ 0 → w ≡ 0 → v ≡ 0 → IsArrivedWithin m rates way w v
-at_target zero rates way w v there last speed = record { there = there; last = last; speed = speed }
-at_target (suc m) rates way w v there last speed = inl (record { there = there; last = last; speed = speed })
+-- a speed below the fastest one and the last one falls
+slowed : (i q n m : ℕ) (rates : JerkRates) (way w v x a : ℕ) → AreJerkRates rates → IsKeptBy rates way w v → IsMoveSpeed rates way w v x → x < fastest_of rates w v → x < v →
+    IsUpWithin n rates.v rates.d i a → n + q + 4 ≤ m → IsNext rates i q m (way - x) v x
+slowed i q n m rates way w v x a ok kept move below down spent enough =
+    let loses : v ≤ x + rates.d = move.safe.after.kept.loses in
+    let slow : v ≤ rates.v = kept.speed in
+    let same : suc (v - x - 1) ≡ v - x = omega arith in
+    goes_on n 0 (falls (v - x - 1) (omega arith) (tight_next rates way w v x ok kept move below)
+    (rw same (up_falls n rates.v rates.d i a x (v - x) (omega arith) (omega arith) spent)) enough)
 
--- from rest a move starts
-starts : (rates : JerkRates) (way w v x : ℕ) → AreJerkRates rates → IsMoveSpeed rates way w v x → w ≡ 0 → v ≡ 0 → 0 < way → 1 ≤ x
-starts rates way w v x ok move last still more = move.greatest 1 (rw (last, still)
-    (start_safe rates.v rates.a rates.d rates.j way (omega (arith, ok.v_least)) (omega (arith, ok.a_least)) (omega (arith, ok.d_least)) (omega (arith, ok.j_least)) more))
-
--- what comes after a speed of a move
-record IsAfter (rates : JerkRates) (m way v x : ℕ) : Type 0 where
-  later : (n s : ℕ) → Rests n rates.d rates.j v x → way - x ≤ way_of rates.d rates.j v x + s → n + 3 * s + min (v + x) 1 ≤ m →
-      IsArrivedWithin m rates (way - x) v x
-
--- from a motion that stands
-from_stand : (m n s : ℕ) (rates : JerkRates) (way w v x : ℕ) → AreJerkRates rates → IsMoveSpeed rates way w v x → v ≡ 0 → 0 < way + w + v →
-    way ≤ way_of rates.d rates.j w v + s → n + 3 * s + min (w + v) 1 ≤ suc m → IsAfter rates m way v x → IsArrivedWithin m rates (way - x) v x
-from_stand m n s rates way w v x ok move still going left enough after =
-    let none : way_of rates.d rates.j w 0 ≡ 0 = way_zero rates.d rates.j w (slows rates ok) (some rates ok) in
-    let no_way : way_of rates.d rates.j w v ≡ 0 = rw still none in
-    let fits : way_of rates.d rates.j v x ≤ way - x = move.safe.after.kept.fits in
-    let within : x ≤ way = move.safe.after.within in
-    elim (cases_lt 0 x) [
-      | inl moves ↦ after.later (suc (way_of rates.d rates.j v x)) (way - x - way_of rates.d rates.j v x)
-          (rests_in_way (way_of rates.d rates.j v x) rates.d rates.j v x (slows rates ok) (some rates ok) (omega arith))
-          (omega arith) (omega arith)
-      | inr stands ↦ let rest : x ≡ 0 = omega arith in
-          after.later 0 s rest (omega arith)
-          (elim (cases_lt 0 w) [
-            | inl moved ↦ omega arith
-            | inr rests ↦ absurd (let one : 1 ≤ x = starts rates way w v x ok move (omega arith) still (omega arith) in omega arith)
-          ])
+-- what comes after a speed below the fastest
+slowed_again : (i q n l m : ℕ) (rates : JerkRates) (way w v x a : ℕ) → AreJerkRates rates → IsKeptBy rates way w v → IsMoveSpeed rates way w v x → x < fastest_of rates w v →
+    way ≤ l * rates.v → IsUpWithin n rates.v rates.d i a → x ≤ v + a → n + l + q + 5 ≤ m → IsNext rates i q m (way - x) v x
+slowed_again i q n l m rates way w v x a ok kept move below far spent within enough =
+    elim (cases_lt x v) [
+      | inr up ↦ goes_on n l (rises (x - v) (omega arith) (tight_next rates way w v x ok kept move below)
+          (up_start n rates.v rates.d i (x - v) a (omega arith) spent) (omega arith) enough)
+      | inl down ↦ slowed i q n m rates way w v x a ok kept move below down spent (omega arith)
     ]
 
--- from one that moves
-from_motion : (m n s : ℕ) (rates : JerkRates) (way w v x : ℕ) → AreJerkRates rates → IsMoveSpeed rates way w v x → 0 < v →
-    Rests n rates.d rates.j w v → way ≤ way_of rates.d rates.j w v + s → n + 3 * s + min (w + v) 1 ≤ suc m → IsAfter rates m way v x →
-    IsArrivedWithin m rates (way - x) v x
-from_motion m zero s rates way w v x ok move moves rests left enough after = absurd (omega arith)
-from_motion m (suc n) s rates way w v x ok move moves rests left enough after =
-    let least : braked_of rates.d rates.j w v ≤ x = safe_least rates.v rates.a rates.d rates.j way w v x (some rates ok) move.safe in
-    let below : way_of rates.d rates.j v (braked_of rates.d rates.j w v) ≤ way_of rates.d rates.j v x =
-    way_below rates.d rates.j v (braked_of rates.d rates.j w v) v x (slows rates ok) (some rates ok) (by_speeds least (omega arith)) in
-    let fits : way_of rates.d rates.j v x ≤ way - x = move.safe.after.kept.fits in
-    let within : x ≤ way = move.safe.after.within in
+-- at the fastest speed whose change the greatest speed limits, the next ones are limited so too
+topped : (i q n l m : ℕ) (rates : JerkRates) (way w v x : ℕ) → AreJerkRates rates → IsMoveSpeed rates way w v x → x ≡ v + reach_of (rates.v - v) rates.j →
+    0 < reach_of (rates.v - v) rates.j → way ≤ l * rates.v → IsUpWithin n rates.v rates.d i (reach_of (rates.v - v) rates.j) → n + l + q + 5 ≤ m →
+    IsNext rates i q m (way - x) v x
+topped i q n l m rates way w v x ok move is more far spent enough =
+    let same : suc (reach_of (rates.v - v) rates.j - 1) ≡ reach_of (rates.v - v) rates.j = omega arith in
+    goes_on n l (tops (reach_of (rates.v - v) rates.j - 1) (omega arith) same move.safe.after.kept (rw same spent) (omega arith) enough)
+
+-- and where it is none the greatest speed is reached
+cruised : (i q n l m : ℕ) (rates : JerkRates) (way w v x : ℕ) → AreJerkRates rates → IsMoveSpeed rates way w v x → v ≤ rates.v →
+    x ≡ v + reach_of (rates.v - v) rates.j → reach_of (rates.v - v) rates.j ≤ 0 → way ≤ l * rates.v → IsUpWithin n rates.v rates.d i 0 → n + l + q + 4 ≤ m →
+    IsNext rates i q m (way - x) v x
+cruised i q n l m rates way w v x ok move slow is none far spent enough =
+    elim (cases_lt v rates.v) [
+      | inl less ↦ absurd (let one : 0 < reach_of (rates.v - v) rates.j = reach_some (rates.v - v) rates.j (some rates ok) (omega arith) in omega arith)
+      | inr full ↦ goes_on n l (cruises (omega arith) (omega arith) move.safe.after.kept spent (omega arith) enough)
+    ]
+
+-- either
+reached : (i q n l m : ℕ) (rates : JerkRates) (way w v x : ℕ) → AreJerkRates rates → IsMoveSpeed rates way w v x → v ≤ rates.v →
+    x ≡ v + reach_of (rates.v - v) rates.j → way ≤ l * rates.v → IsUpWithin n rates.v rates.d i (reach_of (rates.v - v) rates.j) → n + l + q + 5 ≤ m →
+    IsNext rates i q m (way - x) v x
+reached i q n l m rates way w v x ok move slow is far spent enough =
+    elim (cases_lt 0 (reach_of (rates.v - v) rates.j)) [
+      | inl more ↦ topped i q n l m rates way w v x ok move is more far spent enough
+      | inr none ↦ cruised i q n l m rates way w v x ok move slow is none far
+          (up_start n rates.v rates.d i 0 (reach_of (rates.v - v) rates.j) (omega arith) spent) (omega arith)
+    ]
+
+-- the fastest speed where the change falls by i: the one that the greatest speed allows
+fastest_tops : (i : ℕ) (rates : JerkRates) (w v x : ℕ) → rates.j ≡ suc i → 0 < i → v ≤ w + rates.a → x ≡ fastest_of rates w v → x + w + i ≡ 2 * v →
+    x ≡ v + reach_of (rates.v - v) rates.j
+unfolding fastest_of
+fastest_tops i rates w v x is least gains fast next = omega arith
+
+-- the speeds of a slowed motion that speeds up by a, while it brakes by its change: the braked one,
+-- and the next greater one
+turns_up : (i q n l m : ℕ) (rates : JerkRates) (way w v x a : ℕ) → AreJerkRates rates → rates.j ≡ suc i → v ≡ w + a → IsTight rates way w v →
+    IsMoveSpeed rates way w v x → IsUpWithin (suc n) rates.v rates.d i a → way ≤ l * rates.v → n + l + q + 5 ≤ m → BrakesByChange rates w v →
+    x ≤ suc (braked_of rates.d rates.j w v) → IsNext rates i q m (way - x) v x
+turns_up i q n l m rates way w v x a ok is up tight move spent far enough change close =
+    let own : braked_of rates.d rates.j w v + w + rates.j ≡ 2 * v = change.own in
+    let least : 0 < i = omega (arith, ok.j_least) in
+    let lowest : braked_of rates.d rates.j w v ≤ x = safe_least rates.v rates.a rates.d rates.j way w v x (some rates ok) move.safe in
+    let loses : v ≤ x + rates.d = move.safe.after.kept.loses in
+    let slow : v ≤ rates.v = tight.kept.speed in
+    let gains : v ≤ w + rates.a = tight.kept.gains in
+    elim (cases_lt x (fastest_of rates w v)) [
+      | inl below ↦ elim (cases_lt x v) [
+        | inr on ↦ goes_on n l (rises (x - v) (omega arith) (tight_next rates way w v x ok tight.kept move below)
+            (up_up n rates.v rates.d i a (x - v) (omega arith) spent) (omega arith) enough)
+        | inl down ↦ goes_on n l (falls (v - x - 1) (omega arith) (tight_next rates way w v x ok tight.kept move below)
+            (let equal : suc (v - x - 1) ≡ v - x = omega arith in
+            rw equal (up_down n rates.v rates.d i a x (v - x) (omega arith) (omega arith) (omega arith) (omega arith) spent)) (omega arith))
+      ]
+      | inr forced ↦
+          let under : braked_of rates.d rates.j w v < fastest_of rates w v = change_below rates way w v ok tight change in
+          let fast : x ≤ fastest_of rates w v = under_fastest rates way w v x ok move in
+          let top : x ≡ v + reach_of (rates.v - v) rates.j = fastest_tops i rates w v x is least gains (omega arith) (omega arith) in
+          let next : IsUpWithin n rates.v rates.d i (reach_of (rates.v - v) rates.j) = up_up n rates.v rates.d i a (reach_of (rates.v - v) rates.j) (omega arith) spent in
+          reached i q n l m rates way w v x ok move slow top far next enough
+    ]
+
+-- below a falling speed the fastest one is above that of a change by i
+fastest_falls : (i : ℕ) (rates : JerkRates) (w v x : ℕ) → rates.j ≡ suc i → 0 < i → v < w → x + i + w ≤ 2 * v → x < fastest_of rates w v
+unfolding fastest_of
+fastest_falls i rates w v x is least slower next = omega arith
+
+-- the speeds of one that slows by u and 1
+turns_down : (i q n m : ℕ) (rates : JerkRates) (way w v x u : ℕ) → AreJerkRates rates → rates.j ≡ suc i → w ≡ v + suc u → IsTight rates way w v →
+    IsMoveSpeed rates way w v x → IsDownWithin (suc n) rates.d i v (suc u) → n + q + 4 ≤ m → BrakesByChange rates w v →
+    x ≤ suc (braked_of rates.d rates.j w v) → IsNext rates i q m (way - x) v x
+turns_down i q n m rates way w v x u ok is down tight move spent enough change close =
+    let own : braked_of rates.d rates.j w v + w + rates.j ≡ 2 * v = change.own in
+    let least : 0 < i = omega (arith, ok.j_least) in
+    let lowest : braked_of rates.d rates.j w v ≤ x = safe_least rates.v rates.a rates.d rates.j way w v x (some rates ok) move.safe in
+    let loses : v ≤ x + rates.d = move.safe.after.kept.loses in
+    let below : x < fastest_of rates w v = fastest_falls i rates w v x is least (omega arith) (omega arith) in
+    let tight_x : IsTight rates (way - x) v x = tight_next rates way w v x ok tight.kept move below in
     elim (cases_lt (braked_of rates.d rates.j w v) x) [
       | inr brakes ↦
-          let same : braked_of rates.d rates.j w v ≡ x = omega arith in
-          let more : way - braked_of rates.d rates.j w v ≤ way_of rates.d rates.j v (braked_of rates.d rates.j w v) + s =
-          omega (arith, way_unfold rates.d rates.j w v (slows rates ok) (some rates ok)) in
-          let down : Rests n rates.d rates.j v x = rw same at rests in
-          let within_x : way - x ≤ way_of rates.d rates.j v x + s = rw same at more in
-          after.later n s down within_x (omega arith)
+          let equal : suc (u + rates.j) ≡ suc u + rates.j = omega arith in
+          goes_on n 0 (falls (u + rates.j) (omega arith) tight_x (rw equal (lower n rates.d i rates.j v (suc u) x (omega arith) (omega arith) (omega arith) (omega arith) spent)) enough)
       | inl more ↦
-          after.later (n + suc (way_of rates.d rates.j v x - way_of rates.d rates.j v (braked_of rates.d rates.j w v))) (way - x - way_of rates.d rates.j v x)
-          (rests_above n (way_of rates.d rates.j v x - way_of rates.d rates.j v (braked_of rates.d rates.j w v)) rates.d rates.j v (braked_of rates.d rates.j w v) v x
-          (slows rates ok) (some rates ok) (by_speeds least (omega arith)) (omega arith) rests)
-          (omega arith) (omega (arith, way_unfold rates.d rates.j w v (slows rates ok) (some rates ok)))
+          let equal : suc (u + i) ≡ suc u + i = omega arith in
+          goes_on n 0 (falls (u + i) (omega arith) tight_x (rw equal (lower n rates.d i i v (suc u) x (omega arith) (omega arith) (omega arith) (omega arith) spent)) enough)
     ]
 
--- a move whose way is longer than its way to rest by s arrives within its cycles of braking, three
--- for each unit of s, and one
-pub rest_arrives : (m n s : ℕ) (rates : JerkRates) (way w v : ℕ) → AreJerkRates rates → Rests n rates.d rates.j w v →
-    way ≤ way_of rates.d rates.j w v + s → n + 3 * s + min (w + v) 1 ≤ m → IsArrivedWithin m rates way w v
-rest_arrives zero n s rates way w v ok rests left enough =
-    let still : v ≡ 0 = omega arith in
-    let none : way_of rates.d rates.j w 0 ≡ 0 = way_zero rates.d rates.j w (slows rates ok) (some rates ok) in
-    let no_way : way_of rates.d rates.j w v ≡ 0 = rw still none in
-    at_target zero rates way w v (omega arith) (omega arith) still
-rest_arrives (suc m) n s rates way w v ok rests left enough =
-    elim (cases_lt 0 (way + w + v)) [
-      | inr there ↦ at_target (suc m) rates way w v (omega arith) (omega arith) (omega arith)
-      | inl going ↦ inr (λ x move.
-          let after : IsAfter rates m way v x = record { later = λ k t down more fuel. rest_arrives m k t rates (way - x) v x ok down more fuel } in
-          elim (cases_lt 0 v) [
-            | inl moves ↦ from_motion m n s rates way w v x ok move moves rests left enough after
-            | inr stands ↦ from_stand m n s rates way w v x ok move (omega arith) going left enough after
+-- a slowed motion that speeds up
+rising : (i q n l m : ℕ) (rates : JerkRates) (way w v a : ℕ) → AreJerkRates rates → rates.j ≡ suc i → rates.d ≤ q * rates.j → v ≡ w + a → IsTight rates way w v →
+    IsUpWithin n rates.v rates.d i a → way ≤ l * rates.v → n + l + q + 5 ≤ suc m → IsStep rates i q m way w v
+rising i q zero l m rates way w v a ok is few up tight spent far enough = absurd (up_some rates.v rates.d i a (slows rates ok) spent)
+rising i q (suc n) l m rates way w v a ok is few up tight spent far enough =
+    let least : 0 < i = omega (arith, ok.j_least) in
+    let slow : v ≤ rates.v = tight.kept.speed in
+    elim (cases_lt (w + rates.j) (suc v + min rates.d (reach_of v rates.j))) [
+      | inr flat ↦
+          let rests : Rests (suc (suc n)) rates.d rates.j w v =
+          up_rests (suc n) rates.v rates.d i rates.j w v a (slows rates ok) least (omega arith) (omega arith) up tight.kept.tops spent in
+          done (flat_arrives (suc m) (suc (suc n)) q rates way w v ok tight few flat rests (omega arith))
+      | inl ramps ↦
+          let rests : Rests (suc (suc (suc n))) rates.d rates.j w (suc v) =
+          up_rests (suc (suc n)) rates.v rates.d i rates.j w (suc v) (suc a) (slows rates ok) least (omega arith) (omega arith) (omega arith)
+          (tight_tops rates way w v ok tight (omega arith) slow) (up_next (suc n) rates.v rates.d i a least spent) in
+          let change : BrakesByChange rates w v = brakes_by_change rates w v ok (omega arith) in
+          let next : braked_of rates.d rates.j w (suc v) ≡ suc (suc (braked_of rates.d rates.j w v)) = change.next in
+          steps (λ x move. elim (cases_lt x (braked_of rates.d rates.j w (suc v))) [
+            | inr past ↦ arrives (past_brake m (suc (suc n)) rates way w v x ok tight move rests past (omega arith))
+            | inl under ↦ turns_up i q n l m rates way w v x a ok is up tight move spent far (omega arith) change (omega arith)
           ])
     ]
 
--- the fastest speed that may follow
-fastest_of : JerkRates → ℕ → ℕ → ℕ
-fastest_of rates w v = min (2 * v + rates.j - w) (v + min rates.a (reach_of (rates.v - v) rates.j))
-
--- below the fastest one a move's next speed is one whose way is too long
-next_too_far : (rates : JerkRates) (way w v x : ℕ) → AreJerkRates rates → IsKeptBy rates way w v → IsMoveSpeed rates way w v x → x < fastest_of rates w v →
-    way - x ≤ way_of rates.d rates.j v (suc x)
-unfolding fastest_of
-next_too_far rates way w v x ok kept move below =
-    elim (cases_lt (way_of rates.d rates.j v (suc x)) (way - x)) [
-      | inr far ↦ far
-      | inl fits ↦ absurd (
-          let least : braked_of rates.d rates.j w v ≤ x = safe_least rates.v rates.a rates.d rates.j way w v x (some rates ok) move.safe in
-          let brakes : IsSafeBy rates way w v (braked_of rates.d rates.j w v) =
-          braked_safe rates.v rates.a rates.d rates.j way w v (slows rates ok) (some rates ok) kept in
-          let slow : v ≤ rates.v = kept.speed in
-          let left : IsLeftBy rates way v (suc x) =
-          kept_after rates.v rates.a rates.d rates.j way v (braked_of rates.d rates.j w v) (suc x) (slows rates ok) (some rates ok) slow
-          (omega arith) (omega arith) (omega arith) brakes.after (omega arith) (omega arith) in
-          let safe : IsSafeBy rates way w v (suc x) =
-          between_safe rates way w v (braked_of rates.d rates.j w v) (suc x) (fastest_of rates w v) ok kept refl refl (omega arith) (omega arith) left in
-          let most : suc x ≤ x = move.greatest (suc x) safe in
-          omega arith)
+-- one that slows
+falling : (i q n m : ℕ) (rates : JerkRates) (way w v u : ℕ) → AreJerkRates rates → rates.j ≡ suc i → rates.d ≤ q * rates.j → w ≡ v + suc u → IsTight rates way w v →
+    IsDownWithin n rates.d i v (suc u) → n + q + 4 ≤ suc m → IsStep rates i q m way w v
+falling i q zero m rates way w v u ok is few down tight spent enough =
+    let loses : w ≤ v + rates.d = tight.kept.loses in
+    absurd (down_some rates.d i v (suc u) (slows rates ok) (omega arith) spent)
+falling i q (suc n) m rates way w v u ok is few down tight spent enough =
+    let least : 0 < i = omega (arith, ok.j_least) in
+    let loses : w ≤ v + rates.d = tight.kept.loses in
+    elim (cases_lt (w + rates.j) (suc v + min rates.d (reach_of v rates.j))) [
+      | inr flat ↦
+          let rests : Rests (suc (suc n)) rates.d rates.j w v =
+          down_rests (suc n) rates.d i rates.j w v (suc u) (slows rates ok) least (omega arith) (omega arith) down (omega arith) spent in
+          done (flat_arrives (suc m) (suc (suc n)) q rates way w v ok tight few flat rests (omega arith))
+      | inl ramps ↦
+          let rests : Rests (suc (suc (suc n))) rates.d rates.j w (suc v) =
+          down_rests (suc (suc n)) rates.d i rates.j w (suc v) u (slows rates ok) least (omega arith) (omega arith) (omega arith) (omega arith)
+          (down_next (suc n) rates.d i v u (slows rates ok) least spent) in
+          let change : BrakesByChange rates w v = brakes_by_change rates w v ok (omega arith) in
+          let next : braked_of rates.d rates.j w (suc v) ≡ suc (suc (braked_of rates.d rates.j w v)) = change.next in
+          steps (λ x move. elim (cases_lt x (braked_of rates.d rates.j w (suc v))) [
+            | inr past ↦ arrives (past_brake m (suc (suc n)) rates way w v x ok tight move rests past (omega arith))
+            | inl under ↦ turns_down i q n m rates way w v x u ok is down tight move spent (omega arith) change (omega arith)
+          ])
     ]
 
--- and never above it
-under_fastest : (rates : JerkRates) (way w v x : ℕ) → AreJerkRates rates → IsMoveSpeed rates way w v x → x ≤ fastest_of rates w v
+-- the fastest speed just below the greatest one
+fastest_near : (rates : JerkRates) (w v a : ℕ) → v ≡ w + a → a ≤ rates.a → reach_of (rates.v - v) rates.j ≤ a →
+    fastest_of rates w v ≡ v + reach_of (rates.v - v) rates.j
 unfolding fastest_of
-under_fastest rates way w v x ok move = below_fastest rates way w v (fastest_of rates w v) x ok refl move.safe
+fastest_near rates w v a up gains less = omega arith
 
--- every motion near the rates brakes to rest within e cycles
-pub record AllRest (rates : JerkRates) (e : ℕ) : Type 0 where
-  pub rests : (p t : ℕ) → t ≤ p + rates.a + 2 → t + run_of (t - p - rates.j) rates.j ≤ rates.v + 2 → Rests e rates.d rates.j p t
-
--- the way of a motion faster by 1
-faster_way : (e : ℕ) (rates : JerkRates) (v x : ℕ) → AreJerkRates rates → AllRest rates e → suc x ≤ suc v + rates.a + 2 →
-    suc x + run_of (x - v - rates.j) rates.j ≤ rates.v + 2 → way_of rates.d rates.j (suc v) (suc x) ≤ way_of rates.d rates.j v x + e
-faster_way e rates v x ok all gains tops =
-    let same : suc x - suc v - rates.j ≡ x - v - rates.j = omega arith in
-    let top : suc x + run_of (suc x - suc v - rates.j) rates.j ≤ rates.v + 2 = rw same tops in
-    way_faster e rates.d rates.j v x (slows rates ok) (some rates ok) (all.rests (suc v) (suc x) gains top)
-
--- where the motion faster by 1 brakes by its change
-record BrakesByChange (rates : JerkRates) (w v : ℕ) : Type 0 where
-  own : braked_of rates.d rates.j w v + w + rates.j ≡ 2 * v
-  next : braked_of rates.d rates.j w (suc v) ≡ suc (suc (braked_of rates.d rates.j w v))
-
-brakes_by_change : (rates : JerkRates) (w v : ℕ) → AreJerkRates rates → suc (braked_of rates.d rates.j w v) < braked_of rates.d rates.j w (suc v) → BrakesByChange rates w v
-brakes_by_change rates w v ok more = by_bound (braked_of rates.d rates.j w (suc v)) refl (braked_is rates.d rates.j w (suc v) (some rates ok))
-  where
-    own : IsBraked rates.d rates.j w v (braked_of rates.d rates.j w v)
-    own = braked_bounds rates.d rates.j w v (some rates ok)
-
-    by_bound : (y : ℕ) → braked_of rates.d rates.j w (suc v) ≡ y → Bound rates.d rates.j w (suc v) y → BrakesByChange rates w v
-    by_bound y same (by_fall is) = absurd (omega (arith, own.loses))
-    by_bound y same (by_reach is) = absurd (omega (arith, own.lands, reach_mono v (suc v) rates.j (some rates ok) (omega arith)))
-    by_bound y same (by_change is) = record { own = omega (arith, own.bends); next = omega (arith, own.bends) }
-
--- there the fastest speed is above the braked one, where the last one was below the fastest
-change_below : (rates : JerkRates) (way w v : ℕ) → AreJerkRates rates → IsKeptBy rates way w v → BrakesByChange rates w v → suc v ≤ w + reach_of (rates.v - w) rates.j →
-    braked_of rates.d rates.j w v < fastest_of rates w v
-unfolding fastest_of
-change_below rates way w v ok kept change below =
-    let own : braked_of rates.d rates.j w v + w + rates.j ≡ 2 * v = change.own in
-    let gains : v ≤ w + rates.a = kept.gains in
-    let least : 2 ≤ rates.j = ok.j_least in
-    let fits : run_of (suc v - w) rates.j ≤ rates.v - w = fits_below_reach (suc v - w) (rates.v - w) rates.j (some rates ok) (omega arith) in
-    let unfolds : run_of (suc v - w) rates.j ≡ (suc v - w) + run_of (suc v - w - rates.j) rates.j = run_unfold (suc v - w) rates.j (some rates ok) in
-    let reach : suc v - w - rates.j ≤ reach_of (rates.v - v) rates.j =
-    reach_greatest (suc v - w - rates.j) (rates.v - v) rates.j (some rates ok) (omega arith) in
-    elim (cases_lt v rates.v) [
-      | inl slower ↦ let one : 0 < reach_of (rates.v - v) rates.j = reach_some (rates.v - v) rates.j (some rates ok) (omega arith) in omega arith
-      | inr top ↦ omega arith
-    ]
-
--- below the fastest is below what the greatest speed allows
-below_reach : (rates : JerkRates) (w v x : ℕ) → x < fastest_of rates w v → suc x ≤ v + reach_of (rates.v - v) rates.j
-unfolding fastest_of
-below_reach rates w v x below = omega arith
-
--- so near to braking that what is left over is few cycles
-near_rest : (n e : ℕ) (rates : JerkRates) (way w v : ℕ) → AreJerkRates rates → AllRest rates e → Rests n rates.d rates.j w v → IsKeptBy rates way w v →
-    way ≤ way_of rates.d rates.j w (suc v) → braked_of rates.d rates.j w (suc v) ≤ suc (braked_of rates.d rates.j w v) →
-    IsArrivedWithin (n + (4 * e + 4)) rates way w v
-near_rest n e rates way w v ok all rests kept near close =
-    let brakes : IsSafeBy rates way w v (braked_of rates.d rates.j w v) =
-    braked_safe rates.v rates.a rates.d rates.j way w v (slows rates ok) (some rates ok) kept in
-    let gains : braked_of rates.d rates.j w v ≤ v + rates.a = brakes.after.kept.gains in
-    let tops : braked_of rates.d rates.j w v + run_of (braked_of rates.d rates.j w v - v - rates.j) rates.j ≤ rates.v = brakes.after.kept.tops in
-    let longer : way_of rates.d rates.j (suc v) (braked_of rates.d rates.j w (suc v)) ≤ way_of rates.d rates.j (suc v) (suc (braked_of rates.d rates.j w v)) =
-    way_below rates.d rates.j (suc v) (braked_of rates.d rates.j w (suc v)) (suc v) (suc (braked_of rates.d rates.j w v)) (slows rates ok) (some rates ok)
-    (by_speeds close (omega arith)) in
-    let faster : way_of rates.d rates.j (suc v) (suc (braked_of rates.d rates.j w v)) ≤ way_of rates.d rates.j v (braked_of rates.d rates.j w v) + e =
-    faster_way e rates v (braked_of rates.d rates.j w v) ok all (omega arith) (omega arith) in
-    rest_arrives (n + (4 * e + 4)) n (suc e) rates way w v ok rests
-    (omega (arith, way_unfold rates.d rates.j w v (slows rates ok) (some rates ok), way_unfold rates.d rates.j w (suc v) (slows rates ok) (some rates ok)))
-    (omega arith)
-
--- what is left over after a speed above the braked one
-above_brake : (m e : ℕ) (rates : JerkRates) (way w v x : ℕ) → AreJerkRates rates → AllRest rates e → IsKeptBy rates way w v → way ≤ way_of rates.d rates.j w (suc v) →
-    BrakesByChange rates w v → IsMoveSpeed rates way w v x → braked_of rates.d rates.j w v < x → 4 * e + 4 ≤ m → IsArrivedWithin m rates (way - x) v x
-above_brake m e rates way w v x ok all kept near change move more enough =
-    let next : braked_of rates.d rates.j w (suc v) ≡ suc (suc (braked_of rates.d rates.j w v)) = change.next in
-    let brakes : IsSafeBy rates way w v (braked_of rates.d rates.j w v) =
-    braked_safe rates.v rates.a rates.d rates.j way w v (slows rates ok) (some rates ok) kept in
-    let gains : x ≤ v + rates.a = move.safe.after.kept.gains in
-    let tops : x + run_of (x - v - rates.j) rates.j ≤ rates.v = move.safe.after.kept.tops in
-    let less : run_of (suc (braked_of rates.d rates.j w v) - v - rates.j) rates.j ≤ run_of (x - v - rates.j) rates.j =
-    run_mono (suc (braked_of rates.d rates.j w v) - v - rates.j) (x - v - rates.j) rates.j (some rates ok) (omega arith) in
-    let faster : way_of rates.d rates.j (suc v) (suc (suc (braked_of rates.d rates.j w v))) ≤ way_of rates.d rates.j v (suc (braked_of rates.d rates.j w v)) + e =
-    faster_way e rates v (suc (braked_of rates.d rates.j w v)) ok all (omega arith) (omega arith) in
-    let longer : way_of rates.d rates.j v (suc (braked_of rates.d rates.j w v)) ≤ way_of rates.d rates.j v x =
-    way_below rates.d rates.j v (suc (braked_of rates.d rates.j w v)) v x (slows rates ok) (some rates ok) (by_speeds more (omega arith)) in
-    let unfolds : way_of rates.d rates.j w (suc v) ≡ suc (suc (braked_of rates.d rates.j w v)) + way_of rates.d rates.j (suc v) (suc (suc (braked_of rates.d rates.j w v))) =
-    rw next at (way_unfold rates.d rates.j w (suc v) (slows rates ok) (some rates ok)) in
-    rest_arrives m e (suc e) rates (way - x) v x ok (all.rests v x (omega arith) (omega arith)) (omega arith) (omega arith)
-
--- a move that has just been slowed by its way is near to braking, and arrives within the cycles of
--- braking five times
-pub tight_arrives : (n e : ℕ) (rates : JerkRates) (way w v : ℕ) → AreJerkRates rates → AllRest rates e → Rests n rates.d rates.j w v → IsKeptBy rates way w v →
-    way ≤ way_of rates.d rates.j w (suc v) → suc v ≤ w + reach_of (rates.v - w) rates.j → IsArrivedWithin (n + (4 * e + 4)) rates way w v
-tight_arrives zero e rates way w v ok all rests kept near below =
-    elim (cases_lt (suc (braked_of rates.d rates.j w v)) (braked_of rates.d rates.j w (suc v))) [
-      | inr close ↦ near_rest zero e rates way w v ok all rests kept near close
-      | inl more ↦ absurd (let own : braked_of rates.d rates.j w v + w + rates.j ≡ 2 * v = (brakes_by_change rates w v ok more).own in
-          let least : 2 ≤ rates.j = ok.j_least in omega arith)
-    ]
-tight_arrives (suc n) e rates way w v ok all rests kept near below =
-    elim (cases_lt (suc (braked_of rates.d rates.j w v)) (braked_of rates.d rates.j w (suc v))) [
-      | inr close ↦ near_rest (suc n) e rates way w v ok all rests kept near close
-      | inl more ↦
-          let same : suc n + (4 * e + 4) ≡ suc (n + (4 * e + 4)) = omega arith in
-          let change : BrakesByChange rates w v = brakes_by_change rates w v ok more in
-          let under : braked_of rates.d rates.j w v < fastest_of rates w v = change_below rates way w v ok kept change below in
-          rw same (inr (λ x move. elim (cases_lt (braked_of rates.d rates.j w v) x) [
-            | inl above ↦ above_brake (n + (4 * e + 4)) e rates way w v x ok all kept near change move above (omega arith)
-            | inr brakes ↦
-                let least : braked_of rates.d rates.j w v ≤ x = safe_least rates.v rates.a rates.d rates.j way w v x (some rates ok) move.safe in
-                let is : braked_of rates.d rates.j w v ≡ x = omega arith in
-                let down : Rests n rates.d rates.j v x = rw is at rests in
-                tight_arrives n e rates (way - x) v x ok all down move.safe.after.kept
-                (next_too_far rates way w v x ok kept move (omega arith)) (below_reach rates w v x (omega arith))
-          ]))
-    ]
-
--- the gap between the greatest speed and the fastest one that may follow: that of a motion which
--- brakes by a
-fastest_gap : (rates : JerkRates) (way w v : ℕ) → AreJerkRates rates → IsKeptBy rates way w v → w ≤ rates.v →
-    rates.v - fastest_of rates w v ≡ braked_of rates.a rates.j (rates.v - w) (rates.v - v)
-unfolding fastest_of braked_of
-fastest_gap rates way w v ok kept within =
+-- a motion whose change the greatest speed limits
+topping : (i q n l m : ℕ) (rates : JerkRates) (way w v a : ℕ) → AreJerkRates rates → rates.j ≡ suc i → v ≡ w + suc a → suc a ≡ reach_of (rates.v - w) rates.j →
+    IsKeptBy rates way w v → IsUpWithin n rates.v rates.d i (suc a) → way ≤ l * rates.v → n + l + q + 5 ≤ suc m → IsStep rates i q m way w v
+topping i q zero l m rates way w v a ok is up limits kept spent far enough = absurd (up_some rates.v rates.d i (suc a) (slows rates ok) spent)
+topping i q (suc n) l m rates way w v a ok is up limits kept spent far enough =
+    let least : 0 < i = omega (arith, ok.j_least) in
     let slow : v ≤ rates.v = kept.speed in
-    let falls : w ≤ v + rates.j + reach_of v rates.j = falls_within w v rates.j (some rates ok) kept.lands in
-    omega (arith, reach_within v rates.j (some rates ok), reach_within (rates.v - v) rates.j (some rates ok))
-
--- what comes after the fastest speed
-record IsAfterFastest (rates : JerkRates) (f c way v x : ℕ) : Type 0 where
-  later : (m l : ℕ) → Rests m rates.a rates.j (rates.v - v) (rates.v - x) → way - x ≤ l * rates.v → m + l ≤ f → IsArrivedWithin (f + c) rates (way - x) v x
-
--- at the fastest speed the gap brakes, or the greatest speed goes on
-at_fastest : (f c m l : ℕ) (rates : JerkRates) (way w v x : ℕ) → AreJerkRates rates → IsKeptBy rates way w v → w ≤ rates.v → x ≤ way →
-    Rests m rates.a rates.j (rates.v - w) (rates.v - v) → way ≤ l * rates.v → m + l ≤ suc f → rates.v - x ≡ braked_of rates.a rates.j (rates.v - w) (rates.v - v) →
-    x ≤ rates.v → IsAfterFastest rates f c way v x → IsArrivedWithin (f + c) rates (way - x) v x
-at_fastest f c (suc m) l rates way w v x ok kept within inside rests far enough gap slow after =
-    after.later m l (rw gap rests) (omega arith) (omega arith)
-at_fastest f c zero zero rates way w v x ok kept within inside rests far enough gap slow after =
-    let still : braked_of rates.a rates.j (rates.v - w) 0 ≡ 0 = braked_zero rates.a rates.j (rates.v - w) in
-    let none : braked_of rates.a rates.j (rates.v - w) (rates.v - v) ≡ 0 = rw rests still in
-    absurd (omega (arith, ok.v_least))
-at_fastest f c zero (suc l) rates way w v x ok kept within inside rests far enough gap slow after =
-    let still : braked_of rates.a rates.j (rates.v - w) 0 ≡ 0 = braked_zero rates.a rates.j (rates.v - w) in
-    let none : braked_of rates.a rates.j (rates.v - w) (rates.v - v) ≡ 0 = rw rests still in
-    let top : x ≡ rates.v = omega arith in
-    after.later zero l (omega arith) (rw top (omega arith)) (omega arith)
-
--- a move goes at its fastest until its way slows it
-pub top_arrives : (f m l e : ℕ) (rates : JerkRates) (way w v : ℕ) → AreJerkRates rates → AllRest rates e → IsKeptBy rates way w v → w ≤ rates.v →
-    Rests m rates.a rates.j (rates.v - w) (rates.v - v) → way ≤ l * rates.v → m + l ≤ f → IsArrivedWithin (f + suc (5 * e + 4)) rates way w v
-top_arrives zero m l e rates way w v ok all kept within rests far enough =
-    let same : zero + suc (5 * e + 4) ≡ suc (5 * e + 4) = omega arith in
-    rw same (inr (λ x move. slowed x move (elim (cases_lt x (fastest_of rates w v)) [
-      | inl below ↦ below
-      | inr above ↦ absurd (
-          let fast : x ≤ fastest_of rates w v = under_fastest rates way w v x ok move in
-          let gap : rates.v - fastest_of rates w v ≡ braked_of rates.a rates.j (rates.v - w) (rates.v - v) = fastest_gap rates way w v ok kept within in
-          let still : braked_of rates.a rates.j (rates.v - w) 0 ≡ 0 = braked_zero rates.a rates.j (rates.v - w) in
-          let full : rates.v - v ≡ 0 = standing m rates w v (omega arith) rests in
-          let none : braked_of rates.a rates.j (rates.v - w) (rates.v - v) ≡ 0 = rw full still in
-          let inside : x ≤ way = move.safe.after.within in
-          let empty : l ≡ 0 = omega arith in
-          let no_way : way ≤ 0 * rates.v = rw empty at far in
-          omega (arith, ok.v_least))
-    ])))
-  where
-    standing : (m : ℕ) (rates : JerkRates) (w v : ℕ) → m ≡ 0 → Rests m rates.a rates.j (rates.v - w) (rates.v - v) → rates.v - v ≡ 0
-    standing m rates w v is rests = rw is at rests
-
-    slowed : (x : ℕ) → IsMoveSpeed rates way w v x → x < fastest_of rates w v → IsArrivedWithin (5 * e + 4) rates (way - x) v x
-    slowed x move below =
-        let gains : x ≤ v + rates.a = move.safe.after.kept.gains in
-        let tops : x + run_of (x - v - rates.j) rates.j ≤ rates.v = move.safe.after.kept.tops in
-        arrived_by (5 * e + 4) (e + (4 * e + 4)) rates (way - x) v x (omega arith)
-        (tight_arrives e e rates (way - x) v x ok all (all.rests v x (omega arith) (omega arith)) move.safe.after.kept
-        (next_too_far rates way w v x ok kept move below) (below_reach rates w v x below))
-top_arrives (suc f) m l e rates way w v ok all kept within rests far enough =
-    let same : suc f + suc (5 * e + 4) ≡ suc (f + suc (5 * e + 4)) = omega arith in
-    rw same (inr (λ x move. elim (cases_lt x (fastest_of rates w v)) [
-      | inl below ↦
-          let gains : x ≤ v + rates.a = move.safe.after.kept.gains in
-          let tops : x + run_of (x - v - rates.j) rates.j ≤ rates.v = move.safe.after.kept.tops in
-          arrived_by (f + suc (5 * e + 4)) (e + (4 * e + 4)) rates (way - x) v x (omega arith)
-          (tight_arrives e e rates (way - x) v x ok all (all.rests v x (omega arith) (omega arith)) move.safe.after.kept
-          (next_too_far rates way w v x ok kept move below) (below_reach rates w v x below))
-      | inr above ↦
-          let fast : x ≤ fastest_of rates w v = under_fastest rates way w v x ok move in
-          let is : fastest_of rates w v ≡ x = omega arith in
-          let gap : rates.v - fastest_of rates w v ≡ braked_of rates.a rates.j (rates.v - w) (rates.v - v) = fastest_gap rates way w v ok kept within in
-          let gap_x : rates.v - x ≡ braked_of rates.a rates.j (rates.v - w) (rates.v - v) = rw is at gap in
-          let slow : v ≤ rates.v = kept.speed in
-          at_fastest f (suc (5 * e + 4)) m l rates way w v x ok kept within move.safe.after.within rests far enough gap_x move.safe.after.kept.speed
-          (record { later = λ k c down left fuel. top_arrives f k c e rates (way - x) v x ok all move.safe.after.kept slow down left fuel })
-    ]))
-
--- the cycles of braking, by a change of j
-rests_by_rates : (k n q d j w v most : ℕ) → 0 < d → 1 < j → d + v ≤ w + k * j → most ≤ n * d → d ≤ q * (j - 1) → v + run_of (v - w - j) j ≤ most →
-    Rests (k + (n + suc q)) d j w v
-rests_by_rates k n q d zero w v most slows bends ramp flat landing tops = absurd (omega arith)
-rests_by_rates k n q d (suc i) w v most slows bends ramp flat landing tops =
-    let less : suc i - 1 ≡ i = omega arith in
-    brake_rests k n q d i w v most slows (omega arith) ramp flat (rw less at landing) tops
-
--- a halt is at rest after as many cycles as braking is
-halted_by : (n : ℕ) (rates : JerkRates) (room w v : ℕ) → AreJerkRates rates → IsKeptBy rates room w v → Rests n rates.d rates.j w v → halted_of n rates w v ≡ 0
-halted_by zero rates room w v ok kept rests = rests
-halted_by (suc n) rates room w v ok kept rests =
-    let safe : IsSafeBy rates room w v (braked_of rates.d rates.j w v) =
-    braked_safe rates.v rates.a rates.d rates.j room w v (slows rates ok) (some rates ok) kept in
-    let same : slowed_of rates w v ≡ braked_of rates.d rates.j w v = slowed_brakes rates room w v ok kept in
-    rw same (halted_by n rates (room - braked_of rates.d rates.j w v) v (braked_of rates.d rates.j w v) ok safe.after.kept rests)
-
--- and so within cycles that its rates count
-pub halts_by_rates : (rates : JerkRates) (room w v k n q : ℕ) → AreJerkRates rates → IsKeptBy rates room w v →
-    rates.a + rates.d ≤ k * rates.j → rates.v ≤ n * rates.d → rates.d ≤ q * (rates.j - 1) → halted_of (k + n + q + 1) rates w v ≡ 0
-halts_by_rates rates room w v k n q ok kept ramp down lower =
-    let same : k + n + q + 1 ≡ k + (n + suc q) = omega arith in
     let gains : v ≤ w + rates.a = kept.gains in
-    rw same (halted_by (k + (n + suc q)) rates room w v ok kept
-    (rests_by_rates k n q rates.d rates.j w v rates.v (slows rates ok) (omega (arith, ok.j_least)) (omega arith) down lower kept.tops))
+    let left : rates.v - w - reach_of (rates.v - w) rates.j ≡ rates.v - v = omega arith in
+    let lower : reach_of (rates.v - w - reach_of (rates.v - w) rates.j) rates.j ≤ reach_of (rates.v - w) rates.j - i = reach_falls (rates.v - w) i rates.j is least in
+    let fewer : reach_of (rates.v - v) rates.j ≤ suc a - i = rw (left, ← limits) at lower in
+    let fast : fastest_of rates w v ≡ v + reach_of (rates.v - v) rates.j = fastest_near rates w v (suc a) up (omega arith) (omega arith) in
+    steps (λ x move.
+    let loses : v ≤ x + rates.d = move.safe.after.kept.loses in
+    let under : x ≤ fastest_of rates w v = under_fastest rates way w v x ok move in
+    elim (cases_lt x (fastest_of rates w v)) [
+      | inl below ↦ elim (cases_lt x v) [
+        | inr on ↦ goes_on n l (rises (x - v) (omega arith) (tight_next rates way w v x ok kept move below)
+            (up_up n rates.v rates.d i (suc a) (x - v) (omega arith) spent) (omega arith) (omega arith))
+        | inl down ↦ slowed i q (suc n) m rates way w v x (suc a) ok kept move below down spent (omega arith)
+      ]
+      | inr top ↦ elim (cases_lt 0 (reach_of (rates.v - v) rates.j)) [
+        | inl more ↦ topped i q n l m rates way w v x ok move (omega arith) more far
+            (up_up n rates.v rates.d i (suc a) (reach_of (rates.v - v) rates.j) (omega arith) spent) (omega arith)
+        | inr none ↦ cruised i q (suc n) l m rates way w v x ok move slow (omega arith) none far
+            (up_start (suc n) rates.v rates.d i 0 (suc a) (omega arith) spent) (omega arith)
+      ]
+    ])
+
+-- the fastest speed at the greatest one
+fastest_full : (rates : JerkRates) (w v : ℕ) → AreJerkRates rates → w ≡ rates.v → v ≡ rates.v → fastest_of rates w v ≡ rates.v
+unfolding fastest_of
+fastest_full rates w v ok last full =
+    let none : reach_of (rates.v - v) rates.j ≤ rates.v - v = reach_within (rates.v - v) rates.j (some rates ok) in
+    omega arith
+
+-- a motion at the greatest speed
+cruising : (i q n l m : ℕ) (rates : JerkRates) (way w v : ℕ) → AreJerkRates rates → w ≡ rates.v → v ≡ rates.v → IsKeptBy rates way w v →
+    IsUpWithin n rates.v rates.d i 0 → way ≤ l * rates.v → n + l + q + 4 ≤ suc m → IsStep rates i q m way w v
+cruising i q n zero m rates way w v ok last full kept spent far enough = steps (λ x move.
+    let within : x ≤ way = move.safe.after.within in
+    arrives (stop_arrives m rates (way - x) v x ok (omega arith) (omega arith) (omega arith)))
+cruising i q n (suc l) m rates way w v ok last full kept spent far enough =
+    let fast : fastest_of rates w v ≡ rates.v = fastest_full rates w v ok last full in
+    steps (λ x move.
+    let within : x ≤ way = move.safe.after.within in
+    let under : x ≤ fastest_of rates w v = under_fastest rates way w v x ok move in
+    elim (cases_lt x (fastest_of rates w v)) [
+      | inl below ↦ slowed i q n m rates way w v x 0 ok kept move below (omega arith) spent (omega arith)
+      | inr top ↦ goes_on n l (cruises full (omega arith) move.safe.after.kept spent (omega arith) (omega arith))
+    ])
+
+-- each cycle of a phase
+next_phase : (i q n l m : ℕ) (rates : JerkRates) (way w v : ℕ) → AreJerkRates rates → rates.j ≡ suc i → rates.d ≤ q * rates.j → IsPhase rates i q n l (suc m) way w v →
+    IsStep rates i q m way w v
+next_phase i q n l m rates way w v ok is few (rises a up tight spent far enough) = rising i q n l m rates way w v a ok is few up tight spent far enough
+next_phase i q n l m rates way w v ok is few (falls u down tight spent enough) = falling i q n m rates way w v u ok is few down tight spent enough
+next_phase i q n l m rates way w v ok is few (tops a up limits kept spent far enough) = topping i q n l m rates way w v a ok is up limits kept spent far enough
+next_phase i q n l m rates way w v ok is few (cruises last full kept spent far enough) = cruising i q n l m rates way w v ok last full kept spent far enough
+
+no_phase : (i q n l : ℕ) (rates : JerkRates) (way w v : ℕ) → IsPhase rates i q n l 0 way w v → ⊥
+no_phase i q n l rates way w v (rises a up tight spent far enough) = omega arith
+no_phase i q n l rates way w v (falls u down tight spent enough) = omega arith
+no_phase i q n l rates way w v (tops a up limits kept spent far enough) = omega arith
+no_phase i q n l rates way w v (cruises last full kept spent far enough) = omega arith
+
+-- so a phase arrives in time
+phase_arrives : (m i q n l : ℕ) (rates : JerkRates) (way w v : ℕ) → AreJerkRates rates → rates.j ≡ suc i → rates.d ≤ q * rates.j → IsPhase rates i q n l m way w v →
+    IsArrivedWithin m rates way w v
+phase_arrives zero i q n l rates way w v ok is few phase = absurd (no_phase i q n l rates way w v phase)
+phase_arrives (suc m) i q n l rates way w v ok is few phase =
+    by_step (next_phase i q n l m rates way w v ok is few phase)
+    (λ x n l after. phase_arrives m i q n l rates (way - x) v x ok is few after)
+  where
+    by_next : (x : ℕ) → IsNext rates i q m (way - x) v x →
+        ((x n l : ℕ) → IsPhase rates i q n l m (way - x) v x → IsArrivedWithin m rates (way - x) v x) → IsArrivedWithin m rates (way - x) v x
+    by_next x (goes_on n l after) later = later x n l after
+    by_next x (arrives arrived) later = arrived
+
+    by_step : IsStep rates i q m way w v → ((x n l : ℕ) → IsPhase rates i q n l m (way - x) v x → IsArrivedWithin m rates (way - x) v x) →
+        IsArrivedWithin (suc m) rates way w v
+    by_step (done arrived) later = arrived
+    by_step (steps next) later = inr (λ x move. by_next x (next x move) later)
+
+-- and what comes before one
+next_arrives : (m i q : ℕ) (rates : JerkRates) (way w v : ℕ) → AreJerkRates rates → rates.j ≡ suc i → rates.d ≤ q * rates.j → IsNext rates i q m way w v →
+    IsArrivedWithin m rates way w v
+next_arrives m i q rates way w v ok is few (goes_on n l phase) = phase_arrives m i q n l rates way w v ok is few phase
+next_arrives m i q rates way w v ok is few (arrives arrived) = arrived
+
+-- the speed after a fastest one that has changed by a, or that the greatest speed limits
+data IsRaised (rates : JerkRates) (w v x : ℕ) : Type 0 where
+  by_change : x + w ≡ 2 * v + rates.j → IsRaised rates w v x
+  by_gain : x ≡ v + rates.a → rates.a < reach_of (rates.v - v) rates.j → IsRaised rates w v x
+  by_top : x ≡ v + reach_of (rates.v - v) rates.j → reach_of (rates.v - v) rates.j ≤ rates.a → IsRaised rates w v x
+
+raised : (rates : JerkRates) (w v x : ℕ) → x ≡ fastest_of rates w v → x + w ≤ 2 * v + rates.j → IsRaised rates w v x
+unfolding fastest_of
+raised rates w v x is bent =
+    elim (cases_lt (v + min rates.a (reach_of (rates.v - v) rates.j)) (2 * v + rates.j - w)) [
+      | inr change ↦ by_change (omega arith)
+      | inl other ↦ elim (cases_lt rates.a (reach_of (rates.v - v) rates.j)) [
+        | inl gain ↦ by_gain (omega arith) gain
+        | inr top ↦ by_top (omega arith) top
+      ]
+    ]
+
+-- the fastest speed is within what the greatest speed allows
+fastest_within : (rates : JerkRates) (w v : ℕ) → fastest_of rates w v ≤ v + reach_of (rates.v - v) rates.j
+unfolding fastest_of
+fastest_within rates w v = omega arith
+
+-- a move that speeds up by a in each cycle
+flat_rises : (m g i q n l : ℕ) (rates : JerkRates) (way w v : ℕ) → AreJerkRates rates → rates.j ≡ suc i → rates.d ≤ q * rates.j → IsKeptBy rates way w v →
+    rates.a + w ≤ v → rates.v ≤ v + g * rates.a → way ≤ l * rates.v → IsUpWithin n rates.v rates.d i rates.a → g + (n + l + q + 5) ≤ m → IsArrivedWithin m rates way w v
+flat_rises zero g i q n l rates way w v ok is few kept up near far spent enough = absurd (omega arith)
+flat_rises (suc m) zero i q n l rates way w v ok is few kept up near far spent enough = inr (λ x move.
+    let slow : v ≤ rates.v = kept.speed in
+    let none : reach_of (rates.v - v) rates.j ≤ rates.v - v = reach_within (rates.v - v) rates.j (some rates ok) in
+    let under : x ≤ fastest_of rates w v = under_fastest rates way w v x ok move in
+    let within : fastest_of rates w v ≤ v + reach_of (rates.v - v) rates.j = fastest_within rates w v in
+    next_arrives m i q rates (way - x) v x ok is few (elim (cases_lt x (fastest_of rates w v)) [
+      | inl below ↦ slowed i q n m rates way w v x rates.a ok kept move below (omega arith) spent (omega arith)
+      | inr top ↦ by_speed x move slow (omega arith) (raised rates w v x (omega arith) move.safe.rises)
+    ]))
+  where
+    by_speed : (x : ℕ) → IsMoveSpeed rates way w v x → v ≤ rates.v → reach_of (rates.v - v) rates.j ≤ 0 → IsRaised rates w v x → IsNext rates i q m (way - x) v x
+    by_speed x move slow none (by_change change) = absurd (omega (arith, move.safe.after.kept.gains, ok.j_least))
+    by_speed x move slow none (by_gain gain more) = absurd (omega arith)
+    by_speed x move slow none (by_top top less) = cruised i q n l m rates way w v x ok move slow top none far
+        (up_start n rates.v rates.d i 0 rates.a (omega arith) spent) (omega arith)
+flat_rises (suc m) (suc g) i q n l rates way w v ok is few kept up near far spent enough = inr (λ x move.
+    let gains : x ≤ v + rates.a = move.safe.after.kept.gains in
+    let slow : v ≤ rates.v = kept.speed in
+    let under : x ≤ fastest_of rates w v = under_fastest rates way w v x ok move in
+    elim (cases_lt x (fastest_of rates w v)) [
+      | inl below ↦ next_arrives m i q rates (way - x) v x ok is few
+          (slowed_again i q n l m rates way w v x rates.a ok kept move below far spent gains (omega arith))
+      | inr top ↦ by_speed x move slow (raised rates w v x (omega arith) move.safe.rises)
+          (λ up near. flat_rises m g i q n l rates (way - x) v x ok is few move.safe.after.kept up near (omega arith) spent (omega arith))
+    ])
+  where
+    by_speed : (x : ℕ) → IsMoveSpeed rates way w v x → v ≤ rates.v → IsRaised rates w v x →
+        (rates.a + v ≤ x → rates.v ≤ x + g * rates.a → IsArrivedWithin m rates (way - x) v x) → IsArrivedWithin m rates (way - x) v x
+    by_speed x move slow (by_change change) later = absurd (omega (arith, move.safe.after.kept.gains, ok.j_least))
+    by_speed x move slow (by_top top less) later = next_arrives m i q rates (way - x) v x ok is few
+        (reached i q n l m rates way w v x ok move slow top far
+        (up_start n rates.v rates.d i (reach_of (rates.v - v) rates.j) rates.a less spent) (omega arith))
+    by_speed x move slow (by_gain gain more) later = later (omega arith) (omega arith)
+
+-- and one whose gain still rises
+pub ramp_rises : (m k g i q n l : ℕ) (rates : JerkRates) (way w v : ℕ) → AreJerkRates rates → rates.j ≡ suc i → rates.d ≤ q * rates.j → IsKeptBy rates way w v →
+    rates.a + w ≤ v + k * rates.j → rates.v ≤ g * rates.a → way ≤ l * rates.v → IsUpWithin n rates.v rates.d i rates.a → k + g + (n + l + q + 5) ≤ m →
+    IsArrivedWithin m rates way w v
+ramp_rises m zero g i q n l rates way w v ok is few kept up near far spent enough =
+    flat_rises m g i q n l rates way w v ok is few kept (omega arith) (omega arith) far spent (omega arith)
+ramp_rises zero (suc k) g i q n l rates way w v ok is few kept up near far spent enough = absurd (omega arith)
+ramp_rises (suc m) (suc k) g i q n l rates way w v ok is few kept up near far spent enough = inr (λ x move.
+    let gains : x ≤ v + rates.a = move.safe.after.kept.gains in
+    let slow : v ≤ rates.v = kept.speed in
+    let under : x ≤ fastest_of rates w v = under_fastest rates way w v x ok move in
+    elim (cases_lt x (fastest_of rates w v)) [
+      | inl below ↦ next_arrives m i q rates (way - x) v x ok is few
+          (slowed_again i q n l m rates way w v x rates.a ok kept move below far spent gains (omega arith))
+      | inr top ↦ by_speed x move slow (raised rates w v x (omega arith) move.safe.rises)
+          (λ up. ramp_rises m k g i q n l rates (way - x) v x ok is few move.safe.after.kept up near (omega arith) spent (omega arith))
+    ])
+  where
+    by_speed : (x : ℕ) → IsMoveSpeed rates way w v x → v ≤ rates.v → IsRaised rates w v x →
+        (rates.a + v ≤ x + k * rates.j → IsArrivedWithin m rates (way - x) v x) → IsArrivedWithin m rates (way - x) v x
+    by_speed x move slow (by_change change) later = later (omega arith)
+    by_speed x move slow (by_top top less) later = next_arrives m i q rates (way - x) v x ok is few
+        (reached i q n l m rates way w v x ok move slow top far
+        (up_start n rates.v rates.d i (reach_of (rates.v - v) rates.j) rates.a less spent) (omega arith))
+    by_speed x move slow (by_gain gain more) later =
+        flat_rises m g i q n l rates (way - x) v x ok is few move.safe.after.kept (omega arith) (omega arith) (omega arith) spent (omega arith)
 
 -- so a move arrives within cycles that its rates count
-pub arrives_by_rates : (rates : JerkRates) (way w v l k g n p q : ℕ) → AreJerkRates rates → IsKeptBy rates way w v →
-    way ≤ l * rates.v → rates.a + rates.d + 2 ≤ k * rates.j → rates.v ≤ g * rates.a → rates.v + 2 ≤ n * rates.d →
-    rates.a ≤ p * (rates.j - 1) → rates.d ≤ q * (rates.j - 1) →
-    IsArrivedWithin (l + 6 * k + g + 5 * n + p + 5 * q + 12) rates way w v
-arrives_by_rates rates way w v l k g n p q ok kept far ramp up down upper lower =
-    let same : l + 6 * k + g + 5 * n + p + 5 * q + 12 ≡ suc (k + (g + suc p) + l + suc (5 * (k + (n + suc q)) + 4)) = omega arith in
-    rw same (inr (λ x move. after x move))
-  where
-    all : AllRest rates (k + (n + suc q))
-    all = record {
-      rests = λ s t gains tops.
-          rests_by_rates k n q rates.d rates.j s t (rates.v + 2) (slows rates ok) (omega (arith, ok.j_least)) (omega arith) down lower tops;
-    }
+pub arrives_by_rates : (rates : JerkRates) (way w v l k g p n q : ℕ) → AreJerkRates rates → IsKeptBy rates way w v →
+    way ≤ l * rates.v → rates.a + w ≤ v + k * rates.j → rates.v ≤ g * rates.a → rates.a + rates.d ≤ p * (rates.j - 1) → rates.v ≤ n * rates.d → rates.d ≤ q * rates.j →
+    IsArrivedWithin (l + k + g + p + n + q + 5) rates way w v
+arrives_by_rates rates way w v l k g p n q ok kept far up near ramp flat few =
+    ramp_rises (l + k + g + p + n + q + 5) k g (rates.j - 1) q (p + n) l rates way w v ok (omega (arith, ok.j_least)) few kept up near far
+    (up_rates p n rates.v rates.d (rates.j - 1) rates.a ramp flat) (omega arith)
 
-    after : (x : ℕ) → IsMoveSpeed rates way w v x → IsArrivedWithin (k + (g + suc p) + l + suc (5 * (k + (n + suc q)) + 4)) rates (way - x) v x
-    after x move =
-        let slow : v ≤ rates.v = kept.speed in
-        let slow_x : x ≤ rates.v = move.safe.after.kept.speed in
-        let loses : v ≤ x + rates.d = move.safe.after.kept.loses in
-        let gap : (rates.v - x) - (rates.v - v) - rates.j ≡ v - x - rates.j = omega arith in
-        let lands : run_of (v - x - rates.j) rates.j ≤ x = move.safe.after.kept.lands in
-        let tops : (rates.v - x) + run_of ((rates.v - x) - (rates.v - v) - rates.j) rates.j ≤ rates.v = rw gap (omega arith) in
-        let rests : Rests (k + (g + suc p)) rates.a rates.j (rates.v - v) (rates.v - x) =
-        rests_by_rates k g p rates.a rates.j (rates.v - v) (rates.v - x) rates.v (omega (arith, ok.a_least)) (omega (arith, ok.j_least)) (omega arith) up upper tops in
-        top_arrives (k + (g + suc p) + l) (k + (g + suc p)) l (k + (n + suc q)) rates (way - x) v x ok all move.safe.after.kept slow rests (omega arith) (omega arith)
+-- and from rest within those that the quotients count, each rounded up
+pub arrives_from_rest : (rates : JerkRates) (way : ℕ) → AreJerkRates rates → IsArrivedWithin (move_cycles_of rates way) rates way 0 0
+unfolding move_cycles_of
+arrives_from_rest rates way ok =
+    let speed : 0 < rates.v = omega (arith, ok.v_least) in
+    let gain : 0 < rates.a = omega (arith, ok.a_least) in
+    let loss : 0 < rates.d = omega (arith, ok.d_least) in
+    let change : 0 < rates.j = omega (arith, ok.j_least) in
+    let less : 0 < rates.j - 1 = omega (arith, ok.j_least) in
+    arrives_by_rates rates way 0 0 (div_ceil way rates.v) (div_ceil rates.a rates.j) (div_ceil rates.v rates.a) (div_ceil (rates.a + rates.d) (rates.j - 1))
+    (div_ceil rates.v rates.d) (div_ceil rates.d rates.j) ok (standing_kept rates.v rates.a rates.d rates.j way loss change)
+    ((div_ceil_times way rates.v speed).0) (let up : rates.a ≤ div_ceil rates.a rates.j * rates.j = (div_ceil_times rates.a rates.j change).0 in omega arith)
+    ((div_ceil_times rates.v rates.a gain).0) ((div_ceil_times (rates.a + rates.d) (rates.j - 1) less).0)
+    ((div_ceil_times rates.v rates.d loss).0) ((div_ceil_times rates.d rates.j change).0)

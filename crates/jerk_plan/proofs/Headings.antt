@@ -1,4 +1,5 @@
 -- Which way a command heads, and the steps that it wants there.
+-- for: move_step_counted, velocity_step
 use Rattle.std.proofs.Common.{◌≡◌, ℤ, pos, ◌+ℤ◌, ◌≤ℤ◌, Bool, IsTrue, ◌↔◌, false, arith}
 use Rattle.std.proofs.lemmas.Int.{ints, by_lt_z}
 use Rattle.std.proofs.lemmas.Bool.{both_ways}

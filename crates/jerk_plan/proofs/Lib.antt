@@ -1,4 +1,6 @@
-pub mod Moves
+pub mod Halts
 pub mod Velocities
 pub mod Headings
+pub mod Units
+pub mod Tight
 pub mod Arrivals

@@ -1,4 +1,5 @@
 -- Velocities are reached and held.
+-- for: halt_speed, velocities_are_held, velocities_are_reached
 use Rattle.std.proofs.Common.{inl, inr, ◌≡◌, ℕ, ◌+◌, ◌-◌, ◌*◌, ◌<◌, ◌≤◌, zero, suc, min, max, nat_le, arith, refl, ◌∙◌}
 use Rattle.std.proofs.lemmas.Bool.{cases_lt, le-leb, cond-true}
 use Rattle.motion_numbers.specs.Run.{run_of, reach_of}

@@ -1,6 +1,7 @@
 -- The speeds that commands want with limited jerk, counted in the direction of the motion; w is the
 -- speed of the last cycle and v that of this one. This project's profile.
 use Rattle.std.specs.Prelude.{◌≡◌, ◌⊎◌, ℕ, ◌+◌, ◌-◌, ◌*◌, ◌≤◌, zero, suc, min, max, nat_le, if◌then◌else◌}
+use Rattle.std.specs.Int.{div_ceil}
 use Rattle.motion_numbers.specs.Run.{reach_of}
 use Rattle.jerk_core.specs.declared.rates.JerkRates.{JerkRates}
 use Rattle.jerk_core.specs.Braking.{braked_of}
@@ -44,6 +45,13 @@ abbrev pub IsArrivedWithin : ℕ → JerkRates → ℕ → ℕ → ℕ → Type 
 IsArrivedWithin zero rates way w v = IsArrived way w v
 IsArrivedWithin (suc n) rates way w v =
     IsArrived way w v ⊎ ((x : ℕ) → IsMoveSpeed rates way w v x → IsArrivedWithin n rates (way - x) v x)
+
+-- the cycles within which a move from rest arrives: those of its way at the greatest speed, of
+-- speeding up to it, of turning to a fall, of slowing, of landing, and 5; each quotient rounded up
+unfoldable pub move_cycles_of : JerkRates → ℕ → ℕ
+move_cycles_of rates way =
+    div_ceil way rates.v + div_ceil rates.a rates.j + div_ceil rates.v rates.a
+    + div_ceil (rates.a + rates.d) (rates.j - 1) + div_ceil rates.v rates.d + div_ceil rates.d rates.j + 5
 
 -- the speed after n cycles of a halt
 abbrev pub halted_of : ℕ → JerkRates → ℕ → ℕ → ℕ

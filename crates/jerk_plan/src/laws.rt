@@ -5,7 +5,7 @@ ghost use Rattle.motion_numbers.specs.Run.{run_of};
 ghost use Rattle.jerk_core.specs.declared.rates.JerkRates.{JerkRates};
 ghost use Rattle.jerk_core.specs.Braking.{braked_of};
 ghost use Rattle.jerk_core.specs.Rates.{AreJerkRates, AreRatesWithin, IsKeptBy, IsSafeBy};
-ghost use Rattle.jerk_plan.specs.Wanted.{IsMoveSpeed, IsArrivedWithin, slowed_of, halted_of};
+ghost use Rattle.jerk_plan.specs.Wanted.{IsMoveSpeed, IsArrivedWithin, move_cycles_of, slowed_of, halted_of};
 ghost use Rattle.jerk_plan.specs.Wanted.{velocity_of, velocity_after};
 
 /// A move that can stop before its target never passes it, and can stop before it again.
@@ -24,24 +24,30 @@ pub fn move_steps_are_safe()
         IsMoveSpeed own way w v x → IsSafeBy rates room w v x }
 {}
 
-/// A move that can stop before its target arrives there, at rest: within three cycles for each unit
-/// of its way, and two; and within the cycles that its rates count. Those are: l of the greatest
-/// speed have its way, k of j have a and d together and 2, g of a have v, n of d have v and 2, and
-/// p of j less 1 have a, and q of them d. How fast it really is, docs/otg.md tells by measurement.
+/// A move that can stop before its target arrives there, at rest: from rest within as many cycles
+/// as the greatest speed has for its way and the rates for speeding up, turning to a fall, slowing
+/// and landing, each quotient rounded up, and 5. From whatever motion it arrives within l + k + g +
+/// p + n + q + 5 cycles, where l of the greatest speed v have the way, k of j bring the gain of the
+/// last cycle to a, g of a have v, p of j less 1 have a and d together, n of d have v, and q of j
+/// have d; and within four more than the units of its way.
 pub fn moves_arrive()
+    ensures from_rest { (rates : JerkRates) (way : ℕ) →
+        AreJerkRates rates → IsArrivedWithin (move_cycles_of rates way) rates way 0 0 }
+    ensures by_rates { (rates : JerkRates) (way w v l k g p n q : ℕ) →
+        AreJerkRates rates → IsKeptBy rates way w v →
+        way ≤ l * rates.v → rates.a + w ≤ v + k * rates.j → rates.v ≤ g * rates.a →
+        rates.a + rates.d ≤ p * (rates.j - 1) → rates.v ≤ n * rates.d → rates.d ≤ q * rates.j →
+        IsArrivedWithin (l + k + g + p + n + q + 5) rates way w v }
+    ensures by_way { (rates : JerkRates) (way w v : ℕ) →
+        AreJerkRates rates → IsKeptBy rates way w v →
+        IsArrivedWithin (way + 4) rates way w v }
     ensures by_units { (rates : JerkRates) (way w v : ℕ) →
         AreJerkRates rates → IsKeptBy rates way w v →
         IsArrivedWithin (3 * way + 2) rates way w v }
-    ensures by_rates { (rates : JerkRates) (way w v l k g n p q : ℕ) →
-        AreJerkRates rates → IsKeptBy rates way w v →
-        way ≤ l * rates.v → rates.a + rates.d + 2 ≤ k * rates.j →
-        rates.v ≤ g * rates.a → rates.v + 2 ≤ n * rates.d →
-        rates.a ≤ p * (rates.j - 1) → rates.d ≤ q * (rates.j - 1) →
-        IsArrivedWithin (l + 6 * k + g + 5 * n + p + 5 * q + 12) rates way w v }
 {}
 
 /// A halt whose slowing can be taken back brakes by its rates, and rests: within cycles that its
-/// rates count too, where k of j have a and d together, n of d have v, and q of j less 1 have d.
+/// rates count too, where k of j have a and d together and n of d have v.
 pub fn halts_rest()
     ensures brakes { (rates : JerkRates) (room w v : ℕ) →
         AreJerkRates rates → IsKeptBy rates room w v →
@@ -49,10 +55,10 @@ pub fn halts_rest()
     ensures rests { (rates : JerkRates) (room w v : ℕ) →
         AreJerkRates rates → IsKeptBy rates room w v →
         halted_of (v + (v - w) * (v - w)) rates w v ≡ 0 }
-    ensures by_rates { (rates : JerkRates) (room w v k n q : ℕ) →
+    ensures by_rates { (rates : JerkRates) (room w v k n : ℕ) →
         AreJerkRates rates → IsKeptBy rates room w v →
-        rates.a + rates.d ≤ k * rates.j → rates.v ≤ n * rates.d → rates.d ≤ q * (rates.j - 1) →
-        halted_of (k + n + q + 1) rates w v ≡ 0 }
+        rates.a + rates.d ≤ k * rates.j → rates.v ≤ n * rates.d →
+        halted_of (k + n + 1) rates w v ≡ 0 }
 {}
 
 /// A velocity that is not falling, and whose change can be taken back below the wanted one, reaches

@@ -13,4 +13,4 @@ pub use laws::{
     velocities_are_held, velocities_are_reached,
 };
 pub use speeds::{halt_speed, move_speed, own_speed, velocity_speed};
-pub use steps::{halt_step, move_step, velocity_step};
+pub use steps::{halt_step, move_step, move_step_counted, velocity_step};

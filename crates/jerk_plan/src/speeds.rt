@@ -5,34 +5,49 @@ ghost use Rattle.motion_numbers.specs.Run.{reach_of};
 ghost use Rattle.jerk_core.specs.Rates.{AreJerkRates, IsKeptBy};
 ghost use Rattle.jerk_plan.specs.Wanted.{IsSpeedOfMove, IsMoveOf, slowed_of, velocity_of};
 
-use jerk_core::{JerkRates, braked, greatest_fall, safe_speed};
+use jerk_core::{JerkRates, Looks, braked, greatest_fall, safe_speed};
 use motion_numbers::MOST_STEP;
+use std::sync::ledger::Ledger;
 
 /// The wanted speed of a move with the way `way` to its target, in internal units per cycle. A move
 /// that can't stop before its target by its rates slows.
-pub fn move_speed(rates: &JerkRates, way: u64, last: u64, speed: u64) -> u64
+pub fn move_speed<L: Ledger>(
+    rates: &JerkRates,
+    way: u64,
+    last: u64,
+    speed: u64,
+    looks: &mut Looks<L>,
+) -> u64
     requires rates { AreJerkRates rates.now }
     requires last { last ≤ 2 * MOST_STEP }
     requires speed { speed ≤ MOST_STEP }
     ensures wanted { IsSpeedOfMove rates.now way last speed result }
     ensures small { result ≤ 2 * MOST_STEP }
+    ensures cost { looks.new ≤ looks.old + 75 }
 {
-    match safe_speed(rates, way, last, speed) {
+    match safe_speed(rates, way, last, speed, looks) {
         Some(safe) => safe,
         None => halt_speed(rates, last, speed),
     }
 }
 
 /// The speed of a move that can stop before its target by its rates; none where it can't.
-pub fn own_speed(rates: &JerkRates, way: u64, last: u64, speed: u64) -> Option<u64>
+pub fn own_speed<L: Ledger>(
+    rates: &JerkRates,
+    way: u64,
+    last: u64,
+    speed: u64,
+    looks: &mut Looks<L>,
+) -> Option<u64>
     requires rates { AreJerkRates rates.now }
     ensures found { (x : ℕ) → result ≡ Some x → IsMoveOf rates.now way last speed x }
     ensures none { result ≡ None → IsKeptBy rates.now way last speed → ⊥ }
+    ensures cost { looks.new ≤ looks.old + 75 }
 {
     if last > 2 * MOST_STEP || speed > MOST_STEP {
         return None;
     }
-    safe_speed(rates, way, last, speed)
+    safe_speed(rates, way, last, speed, looks)
 }
 
 /// The wanted speed of a halt.

@@ -1,14 +1,16 @@
 // The wanted steps of commands, in either direction.
 
-ghost use Rattle.std.specs.Prelude.{◌≡◌, ◌↔◌, IsTrue, ℤ, ◌+◌, ◌*◌, ◌≤◌, pos, neg_ℤ, ◌≤ℤ◌, unsigned_abs};
+ghost use Rattle.std.specs.Prelude.{◌≡◌, ◌↔◌, IsTrue, ℤ, ◌+◌, ◌*◌, ◌<◌, ◌≤◌, pos, neg_ℤ, ◌≤ℤ◌, unsigned_abs};
 ghost use Rattle.motion_numbers.specs.Ranges.{IsStep, IsWay};
 ghost use Rattle.motion_numbers.specs.Run.{cut_at_zero};
 ghost use Rattle.jerk_core.specs.Rates.{AreJerkRates};
 ghost use Rattle.jerk_plan.specs.Directed.{HeadsUp, IsMoveStep, IsVelocityStep, IsHaltStep};
 
 use crate::speeds::{halt_speed, move_speed, velocity_speed};
-use jerk_core::JerkRates;
+use jerk_core::{JerkRates, Looks};
 use motion_numbers::{MOST_STEP, MOST_WAY};
+use std::marker::Brand;
+use std::sync::ledger::{Blank, Ledger};
 
 /// The wanted step of a move, in internal units per cycle: `distance` leads from the setpoint to
 /// the target, `last` and `speed` are the steps of the last cycle and of this one. A move that
@@ -21,12 +23,54 @@ pub fn move_step(rates: &JerkRates, distance: i64, last: i64, speed: i64) -> i64
     ensures wanted { IsMoveStep rates.now distance last speed result }
     ensures small { unsigned_abs result ≤ 2 * MOST_STEP }
 {
+    move_step_by::<Brand>(rates, distance, last, speed, Blank::new(1))
+}
+
+// The same for any ledger, whose counter nobody reads.
+fn move_step_by<L: Ledger>(
+    rates: &JerkRates,
+    distance: i64,
+    last: i64,
+    speed: i64,
+    blank: Blank,
+) -> i64
+    requires name { blank.name ≡ L.name }
+    requires parts { blank.parts ≡ L.parts }
+    requires some { 0 < blank.parts }
+    requires rates { AreJerkRates rates.now }
+    requires distance { IsWay distance }
+    requires last { unsigned_abs last ≤ 2 * MOST_STEP }
+    requires speed { IsStep speed }
+    ensures wanted { IsMoveStep rates.now distance last speed result }
+    ensures small { unsigned_abs result ≤ 2 * MOST_STEP }
+{
+    let mut looks = Looks::<L>::open(blank);
+    move_step_counted(rates, distance, last, speed, &mut looks)
+}
+
+/// The same, with its looks at the way to rest counted.
+pub fn move_step_counted<L: Ledger>(
+    rates: &JerkRates,
+    distance: i64,
+    last: i64,
+    speed: i64,
+    looks: &mut Looks<L>,
+) -> i64
+    requires rates { AreJerkRates rates.now }
+    requires distance { IsWay distance }
+    requires last { unsigned_abs last ≤ 2 * MOST_STEP }
+    requires speed { IsStep speed }
+    ensures wanted { IsMoveStep rates.now distance last speed result }
+    ensures small { unsigned_abs result ≤ 2 * MOST_STEP }
+    ensures cost { looks.new ≤ looks.old + 75 }
+{
     if heads_up(distance, speed) {
         signed(move_speed(
             rates,
             distance.unsigned_abs(),
             upward(last),
             speed.unsigned_abs(),
+            looks,
         ))
     } else if heads_down(distance, speed) {
         opposite(move_speed(
@@ -34,6 +78,7 @@ pub fn move_step(rates: &JerkRates, distance: i64, last: i64, speed: i64) -> i64
             distance.unsigned_abs(),
             downward(last),
             speed.unsigned_abs(),
+            looks,
         ))
     } else {
         halt_step(rates, last, speed)

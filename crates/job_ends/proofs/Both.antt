@@ -1,4 +1,5 @@
 -- What two files that were read, or weren't, say of the status of a job.
+-- for: crates above
 use Rattle.std.specs.Prelude.{◌≡◌, ◌⊎◌, ℕ, Option, Some, None, IfSome, Result, Ok, Err, List}
 use Rattle.std.proofs.Common.{◌∙◌, inl, inr, ap}
 use Rattle.line_text.specs.Reading.{◌>>=◌}

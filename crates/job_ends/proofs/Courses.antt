@@ -1,5 +1,6 @@
 -- What the course of a job over files says of its status: its files give no reading, and it was said
 -- why; or they give one, and its plan has a status that is about no file.
+-- for: crates above
 use Rattle.std.specs.Prelude.{◌≡◌, ◌⊎◌, refl, ℕ, Bool, true, false, Option, Some, IfSome, IsSomeAnd, Result, Err}
 use Rattle.std.specs.Result.{IsOk}
 use Rattle.std.proofs.Common.{◌∙◌, inl, inr, sym, ap, subst}

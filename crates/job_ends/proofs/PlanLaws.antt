@@ -1,4 +1,5 @@
 -- What plans say of ends.
+-- for: ends_follow_plans, say_unread
 use Rattle.std.specs.Prelude.{◌≡◌, ◌≢◌, ◌⊎◌, refl, ℕ, true, false, Option, Result, Ok, Err, List, IfOk}
 use Rattle.std.specs.Io.KnownBytes.{Appends}
 use Rattle.std.specs.declared.alloc.AllocError.{AllocError}

@@ -1,4 +1,5 @@
 -- What a file that was read, or wasn't, says of the status of a job.
+-- for: crates above
 use Rattle.std.specs.Prelude.{◌≡◌, ◌⊎◌, ◌≤◌, ◌<◌, refl, ℕ, nat_lt, if◌then◌else◌, true, false, Bool, Option, Some, None, IfSome, IsSomeAnd, Result, Ok, Err, List, length}
 use Rattle.std.proofs.Common.{◌∙◌, inl, inr, sym, ap, arith}
 use Rattle.std.proofs.lemmas.Bool.{cases_Bool, ltb-false, ltb-true}

@@ -1,4 +1,5 @@
 -- Readings that are refused, and what they lead to.
+-- for: crates above
 use Rattle.std.specs.Prelude.{◌≡◌, ℕ, Some, Result, Ok, Err, List}
 use Rattle.std.proofs.Common.{◌∙◌, ap, refl, sym}
 use Rattle.motion_history.specs.declared.refused.Rule.{Rule}

@@ -1,4 +1,5 @@
 -- How the status of a job stands to that of its plan.
+-- for: crates above
 use Rattle.std.specs.Prelude.{◌≡◌, ◌≢◌, ◌⊎◌, refl, true, false, Bool, Result, Err}
 use Rattle.std.specs.Result.{IsOk, is_ok}
 use Rattle.std.proofs.Common.{◌∙◌, inl, inr, sym, ap, subst}

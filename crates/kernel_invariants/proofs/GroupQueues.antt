@@ -1,4 +1,5 @@
 -- The commands that wait for a group, by their places.
+-- for: is_machine_kept
 use Rattle.std.specs.Prelude.{◌≡◌, ◌↔◌, refl, ℕ, zero, suc, ◌<◌, Bool, false, IsTrue, Some, List, [], ◌∷◌, length, slice_get}
 use Rattle.std.proofs.Common.{arith, subst}
 use Rattle.group_core.specs.GroupKept.{AreWaiting, IsWaiting}

@@ -1,4 +1,5 @@
 -- A group of a machine by its parts.
+-- for: are_groups_in_state
 use Rattle.std.specs.Prelude.{◌≡◌, ◌↔◌, ◌⊎◌, ℕ, ◌+◌, ◌<◌, Option, Some, List, [], length, map, slice_get, slice_index_or}
 use Rattle.std.proofs.Common.{arith, sym, ap, ◌∙◌}
 use Rattle.std.proofs.lemmas.List.{get_or-map, length-map}

@@ -1,4 +1,5 @@
 -- The limits of a group's axes, one after another.
+-- for: is_machine_kept
 use Rattle.std.specs.Prelude.{◌≡◌, ℕ, zero, suc, ◌+◌, ◌<◌, List, [], ◌∷◌, length, map, slice_index_or, slice_set, take}
 use Rattle.std.proofs.Common.{arith, ap}
 use Rattle.kin_core.specs.declared.limits.Limits.{Limits}

@@ -1,4 +1,5 @@
 -- Where an axis of a group is, by the parts of its group.
+-- for: is_axis_kept, is_machine_kept
 use Rattle.std.specs.Prelude.{◌≡◌, ◌↔◌, ℕ, Bool, false, Some, None, IsTrue}
 use Rattle.std.proofs.Common.{ap}
 use Rattle.axis_core.specs.Cores.{Core}

@@ -1,4 +1,5 @@
 -- The places of an axis on the path of its group.
+-- for: is_axis_kept, is_machine_kept
 use Rattle.std.specs.Prelude.{◌≡◌, ℕ, ◌<◌, pos, Some, length}
 use Rattle.std.proofs.Common.{arith, ap, ◌∙◌}
 use Rattle.std.proofs.lemmas.Int.{ints}

@@ -1,4 +1,5 @@
 -- Who has commands of an axis or a group, by its commands.
+-- for: have_owners_blocks
 use Rattle.std.specs.Prelude.{◌≡◌, ◌↔◌, refl, ℕ, zero, suc, ◌<◌, Bool, true, false, IsTrue, Option, Some, None, List, [], ◌∷◌, slice_get}
 use Rattle.std.proofs.Common.{arith, ap, sym, subst, inl, inr, ◌∙◌}
 use Rattle.std.proofs.lemmas.Bool.{cases_eq}

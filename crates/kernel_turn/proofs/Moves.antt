@@ -1,4 +1,5 @@
 -- Each step keeps the rule.
+-- for: turn_call, turn_cycle, turn_end and others
 use Rattle.std.proofs.Common.{◌≡◌, ◌≢◌, ◌⊎◌, ℕ, zero, suc, ◌+◌, ◌%◌, ◌^◌, ◌<◌, ◌≤◌, List, [], ◌∷◌, ◌++◌, Bool, true, false, Option, Some, None, eqb, eq-eqb, ne_eqb, set, length, refl, sym, ap, ◌∙◌, subst, inl, inr, ⊎_elim, arith, length-append, append_assoc, append-nil, MatchBool}
 use Rattle.std.specs.Prelude.{slice_index, nat_le, ◌||◌, if◌then◌else◌}
 use Rattle.std.proofs.Math.Nat.{mod-add-mod}

@@ -1,4 +1,5 @@
 -- What a kernel has room for.
+-- for: turn_call, turn_cycle, turn_end
 use Rattle.std.proofs.Common.{◌≤◌, Bool, true, false, ℕ, arith}
 use Rattle.std.specs.Prelude.{if◌then◌else◌}
 

@@ -1,4 +1,5 @@
 -- Numbers added up over all views, and what one change does to them.
+-- for: turn_call, turn_cycle, turn_end and others
 use Rattle.std.proofs.Common.{◌≡◌, ◌≢◌, ℕ, zero, suc, ◌+◌, ◌<◌, ◌≤◌, List, [], ◌∷◌, ◌++◌, Bool, true, false, Option, Some, None, eqb, eq-eqb, ne_eqb, set, refl, sym, ap, arith}
 use mathlib.Core.Logic.{dite}
 use mathlib.Core.Option.{some, some-injective, some-ne-none}

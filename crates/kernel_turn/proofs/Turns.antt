@@ -1,4 +1,5 @@
 -- What a whole turn leaves.
+-- for: turn_call, turn_cycle, turn_end and others
 use Rattle.std.proofs.Common.{◌≡◌, ℕ, suc, ◌∷◌, [], ◌++◌, List, length, ap, ◌∙◌, sym, refl, subst, true, false, Bool, Some, None, eq-eqb, ne_eqb, length-append, append-nil, arith}
 use Rattle.std.specs.Prelude.{◌||◌, ◌<◌, if◌then◌else◌}
 use Rattle.std.proofs.lemmas.Bool.{false_from_ne_true}

@@ -1,4 +1,5 @@
 -- The verdict on a trace is one on its text.
+-- for: verify_text
 use Rattle.std.specs.Prelude.{◌≡◌, ◌↔◌, ℕ, Result, Ok, Err, IfOk, List, length}
 use Rattle.motion_history.specs.declared.refused.TextFault.{TextFault}
 use Rattle.trace_check.specs.Legal.{IsLegalTrace}

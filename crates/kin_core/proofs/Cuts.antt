@@ -1,4 +1,5 @@
 -- Numbers cut to bounds, by other names of the bounds.
+-- for: nearest_safe, taken_steps_keep_for_ever
 use Rattle.std.specs.Prelude.{Bool, false, int_lt}
 use Rattle.std.proofs.lemmas.Bool.{or_parts}
 use Rattle.motion_numbers.specs.Ranges.{is_outside}

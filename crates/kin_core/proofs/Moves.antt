@@ -1,4 +1,5 @@
 -- Which wanted steps are safe, and what is left of a braking step that is not: for the plans above.
+-- for: braking_steps_are_only_cut, steps_ahead_are_safe
 use Rattle.std.proofs.Common.{◌≡◌, ℕ, ◌-◌, ◌<◌, ◌≤◌, ℤ, pos, neg_ℤ, ◌+ℤ◌, ◌-ℤ◌, ◌≤ℤ◌, unsigned_abs, refl, arith}
 use Rattle.std.specs.Int.{int_min, int_max}
 use Rattle.std.proofs.lemmas.Int.{ints, clamps}

@@ -1,4 +1,5 @@
 -- The safe steps of a kept pair are an interval, and the taken step is the wanted one cut to it.
+-- for: nearest_safe, taken_steps_keep_for_ever
 use Rattle.std.proofs.Common.{◌≡◌, ℕ, ◌+◌, ◌-◌, ◌<◌, ◌≤◌, ℤ, pos, neg_ℤ, ◌+ℤ◌, ◌-ℤ◌, ◌≤ℤ◌, unsigned_abs, List, [], ◌∷◌, inl, inr, ◌∙◌, ap, arith}
 use Rattle.std.specs.Int.{int_min, int_max}
 use Rattle.std.proofs.lemmas.Int.{ints, clamps, by_lt_z}

@@ -1,4 +1,5 @@
 -- What `omega` reads of a number cut at zero.
+-- for: stoppable, nearest_safe, taken_steps_keep_for_ever
 use Rattle.std.proofs.Common.{◌≡◌, ◌-◌, ℤ, arith}
 use Rattle.std.proofs.lemmas.Int.{ints, clamps}
 use Rattle.motion_numbers.specs.Laws.{AreWays}

@@ -1,5 +1,6 @@
 -- From which pairs an axis can be stopped: exactly those whose way to rest, braking by dmax, fits
 -- on either side.
+-- for: stoppable, nearest_safe, taken_steps_keep_for_ever
 use Rattle.std.proofs.Common.{◌↔◌, ◌≡◌, ℕ, ◌+◌, ◌-◌, ◌<◌, ◌≤◌, zero, suc, ℤ, pos, ◌+ℤ◌, ◌-ℤ◌, ◌≤ℤ◌, ◌<ℤ◌, unsigned_abs, List, [], ◌∷◌, inl, inr, refl, arith}
 use Rattle.std.proofs.lemmas.Int.{ints, clamps, by_lt_z}
 use Rattle.std.proofs.lemmas.Bool.{cases_lt}

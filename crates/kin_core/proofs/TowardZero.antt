@@ -1,4 +1,5 @@
 -- A step that is moved toward zero, by cases.
+-- for: nearest_safe, taken_steps_keep_for_ever
 use Rattle.std.proofs.Common.{◌≡◌, ◌-◌, true, false, ℤ, pos, neg_ℤ, ◌+ℤ◌, ◌-ℤ◌, ◌<ℤ◌, ◌≤ℤ◌, int_lt, unsigned_abs, arith, ◌∙◌}
 use Rattle.std.proofs.lemmas.Bool.{cond-true, cond-false}
 use Rattle.std.proofs.lemmas.Int.{ints, by_lt_z}

@@ -1,4 +1,5 @@
 -- A word that begins with a key, or doesn't.
+-- for: text_behind
 use Rattle.std.proofs.Common.{◌≡◌, ℕ, ◌-◌, ◌<◌, ◌≤◌, false, true, if◌then◌else◌, nat_eq, Some, None, List, length, take, drop, get_or, refl, sym, ap, ◌∙◌, arith}
 use Rattle.std.specs.List.{starts_with}
 use Rattle.std.proofs.lemmas.Bool.{false_from_ne_true}

@@ -1,4 +1,5 @@
 -- The size of a number.
+-- for: numbers_are_small
 use Rattle.std.proofs.Common.{◌≡◌, ℕ, ℤ, Option, Some, None, refl, subst, ◌≤◌, List, length, inl, inr}
 use Rattle.std.specs.Prelude.{nat_le, ◌&&◌, unsigned_abs}
 use Rattle.std.specs.Str.Parse.{digits_value}

@@ -1,4 +1,5 @@
 -- The first line of a text, and those after it.
+-- for: read_lines
 use Rattle.std.proofs.Common.{◌≡◌, refl, ℕ, ◌+◌, ◌<◌, ◌≤◌, List, [], ◌∷◌, ◌++◌, Some, None, length, take, drop, ◌∙◌, ◌==◌, arith, true, false, Bool, inl, inr}
 use Rattle.std.specs.Prelude.{nat_lt, suc}
 use Rattle.std.proofs.Common.{eqb}

@@ -1,4 +1,5 @@
 -- The first byte that passes a test stands at the test's position.
+-- for: read_lines
 use Rattle.std.proofs.Common.{◌≡◌, ℕ, Bool, true, false, List, Option, Some, None, length, refl, arith}
 use Rattle.std.specs.Prelude.{nat_lt}
 use Rattle.std.specs.List.{position, position_or_len}

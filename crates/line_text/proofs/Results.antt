@@ -1,4 +1,5 @@
 -- Readings step by step.
+-- for: crates above
 use Rattle.std.proofs.Common.{◌≡◌, ◌≤◌, ℕ, ℤ, Bool, true, false, Option, Some, None, Result, Ok, Err, refl, sym, ◌∙◌, arith}
 use Rattle.std.specs.Prelude.{cond, int_le, pos, unsigned_abs}
 use Rattle.std.specs.Option.{ok_or}

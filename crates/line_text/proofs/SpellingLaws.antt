@@ -1,4 +1,5 @@
 -- What is found in a text is what it spells.
+-- for: read_lines
 use Rattle.std.proofs.Common.{◌≡◌, refl, ℕ, suc, ◌+◌, ◌≤◌, Bool, true, false, List, [], ◌∷◌, ◌++◌, length, sym, ◌∙◌, ap, subst, arith, inl, inr, lit≤}
 use Rattle.std.specs.Prelude.{◌||◌, not}
 use Rattle.std.specs.List.{before_first, filter, list_all, onto_first, position_or_len, slice_split}

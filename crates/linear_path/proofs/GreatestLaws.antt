@@ -1,4 +1,5 @@
 -- The greatest number that passes a test, and the greatest that passes the test of each axis.
+-- for: path_limits
 use Rattle.std.proofs.Common.{◌≡◌, ℕ, zero, suc, ◌+◌, ◌<◌, ◌≤◌, min, refl, ◌∙◌, ap, inl, inr, arith, Bool, true, false, ◌↔◌}
 use Rattle.std.proofs.lemmas.Bool.{cases_eq, cases_lt, cond_both, and_parts, and_from}
 use Rattle.motion_numbers.specs.declared.TheConstants.{MOST_STEP}

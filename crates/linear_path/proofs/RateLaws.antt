@@ -1,4 +1,5 @@
 -- The greatest rates of a path pass, and are limits.
+-- for: path_limits
 use Rattle.std.proofs.Common.{◌≡◌, ℕ, ◌+◌, ◌<◌, ◌≤◌, min, refl, sym, arith, ℤ, pos, unsigned_abs, List}
 use Rattle.std.proofs.lemmas.Int.{ints}
 use Rattle.motion_numbers.specs.declared.TheConstants.{MOST_STEP, MOST_WAY}

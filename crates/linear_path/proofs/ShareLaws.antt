@@ -1,4 +1,5 @@
 -- Which velocities and changes of a path an axis keeps, by the share of them that it has.
+-- for: path_limits
 use Rattle.std.proofs.Common.{◌≡◌, ℕ, ◌+◌, ◌-◌, ◌*◌, ◌/◌, ◌<◌, ◌≤◌, min, refl, inl, inr, arith, Bool, true, nat_le, eq-eqb, ◌↔◌}
 use Rattle.std.proofs.Math.Nat.{mul-le-mul_right, mul-le-mul_left}
 use Rattle.std.proofs.lemmas.Bool.{cases_eq, leb-true, le-leb}

@@ -1,4 +1,5 @@
 -- What an axis keeps whose setpoints follow a path.
+-- for: leads_its_axes, steps_along_a_path_are_safe
 use Rattle.std.proofs.Common.{◌≡◌, ap, arith, ℤ, pos, ◌-ℤ◌, ◌≤ℤ◌, unsigned_abs, List, [], ◌∷◌, map}
 use Rattle.std.proofs.lemmas.Int.{ints, clamps}
 use Rattle.kin_core.specs.declared.limits.Limits.{Limits}

@@ -1,4 +1,5 @@
 -- The lines of a generated load are of its machine, and fill its room.
+-- for: generate, loads_fill_their_room
 use Rattle.std.proofs.Common.{[], ap, arith, Bool, false, length, List, lit<, lit≤, map, refl, replicate, Some, subst, suc, sym, true, zero, ℕ, ℤ, ◌*◌, ◌+◌, ◌-◌, ◌<◌, ◌∙◌, ◌∷◌, ◌≡◌, ◌≤◌}
 use Rattle.std.specs.Prelude.{pos, All, slice_get, slice_index_or, unsigned_abs, ◌++◌, sum_by, if◌then◌else◌}
 use Rattle.std.specs.List.{flat_map, range_with_len}

@@ -1,4 +1,5 @@
 -- No item of the machine is refused, and the machine is the items that are added.
+-- for: generate, loads_fill_their_room
 use Rattle.std.proofs.Common.{◌≡◌, refl, get_or, ◌/◌, ◌%◌, sym, ◌∙◌, ap, ℕ, ◌<◌, ◌+◌, Bool, true, Option, Some, None, [], ◌∷◌, map, arith}
 use Rattle.std.specs.Prelude.{Err, pos, is_none, codes, ◌++◌}
 use Rattle.std.specs.List.{list_all, range_with_len}

@@ -1,4 +1,5 @@
 -- What items mean is what they add.
+-- for: read_config
 use Rattle.std.proofs.Common.{◌≡◌, ℕ, Some, None, Ok, List, length, refl, sym, ap, subst, ◌∙◌, arith}
 use Rattle.std.specs.Prelude.{nat_le, not}
 use Rattle.std.proofs.lemmas.Bool.{le-leb, leb-true}

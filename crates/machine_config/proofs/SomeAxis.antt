@@ -1,4 +1,5 @@
 -- A machine that a text configures has an axis.
+-- for: read_config
 use Rattle.std.proofs.Common.{◌≡◌, ℕ, ◌+◌, ◌≤◌, true, false, Option, Some, None, Result, Ok, Err, List, [], ◌∷◌, ◌++◌, length, refl, ap, subst, ◌∙◌, arith}
 use Rattle.std.specs.Prelude.{◌&&◌, IfOk, is_some, nat_le}
 use Rattle.std.specs.List.{filter_map, list_all}

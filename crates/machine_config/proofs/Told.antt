@@ -1,4 +1,5 @@
 -- What numbers, quantities, points and lists are read as, in the words of what a text configures.
+-- for: read_config
 use Rattle.std.proofs.Common.{◌≡◌, ℕ, ◌*◌, ◌^◌, ◌≤◌, ℤ, Bool, true, false, Option, Some, None, Result, Ok, Err, List, [], ◌∷◌, refl, sym, ap, subst, ◌∙◌, arith, inl, inr}
 use Rattle.std.specs.Prelude.{◌↔◌, ◌*ℤ◌, cond, int_le, nat_le, pos, unsigned_abs}
 use Rattle.std.specs.List.{after_first, before_first, list_any}

@@ -1,4 +1,5 @@
 -- Values in memory beside the data that they are.
+-- for: read_config
 use Rattle.std.proofs.Common.{◌≡◌, ℕ, ◌+◌, ◌<◌, Bool, List, [], ◌∷◌, ◌++◌, length, get_or, take, map, Option, Some, None, refl, ap, add-one}
 use Rattle.std.specs.Prelude.{◌&&◌}
 use Rattle.std.specs.List.{cons_option, filter_map, list_all}

@@ -1,5 +1,5 @@
 -- What drives took, and where they are, can be held by a trace.
--- for: kept_histories_are_read_back
+-- for: crates above
 use Rattle.std.proofs.Common.{ℕ, ◌<◌, ◌≤◌, List, [], ◌∷◌, map, arith}
 use Rattle.std.specs.Prelude.{All}
 use Rattle.std.specs.List.{AllByRecursion}

@@ -1,4 +1,5 @@
 -- A drive of a machine can be opened: its fault steps rise.
+-- for: drives_can_be_opened
 use Rattle.std.specs.Prelude.{◌≡◌, ℕ, true, List, [], ◌∷◌, nat_lt}
 use Rattle.std.proofs.lemmas.Bool.{and_parts, ltb-true}
 use Rattle.drive_sim.specs.Faults.{RisesAbove}

@@ -1,4 +1,5 @@
 -- A drive that is read is one.
+-- for: crates above
 use Rattle.std.proofs.Common.{◌≡◌, ℤ, Ok, List, length, refl, subst}
 use Rattle.std.specs.Prelude.{nat_le}
 use Rattle.std.proofs.lemmas.Bool.{leb-true}

@@ -1,4 +1,5 @@
 -- Items without a fault.
+-- for: crates above
 use Rattle.std.proofs.Common.{◌≡◌, ℕ, Option, Some, None, Ok, refl}
 use Rattle.motion_history.specs.declared.fault.ConfigFault.{ConfigFault}
 use Rattle.machine_words.specs.Rules.{broken_by}

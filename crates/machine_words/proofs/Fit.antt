@@ -1,4 +1,5 @@
 -- Inputs that are read fit their block.
+-- for: inputs_are_fit
 use Rattle.std.proofs.Common.{◌≡◌, ℕ, ◌<◌, ◌≤◌, ℤ, true, Option, Some, None, Ok, List, length, refl, subst, arith, inl, inr, lit≤}
 use Rattle.std.specs.Prelude.{pos, codes}
 use Rattle.std.proofs.lemmas.Bool.{cases_Bool}

@@ -1,4 +1,5 @@
 -- What is given to the inputs of a call.
+-- for: inputs_are_fit
 use Rattle.std.proofs.Common.{◌≡◌, ℕ, ◌-◌, ◌≤◌, ℤ, Bool, true, false, Option, Some, None, Result, Ok, List, ◌++◌, length, refl, sym, subst, arith}
 use Rattle.std.specs.Prelude.{pos, ◌==◌, cond, replicate, slice_index_or}
 use Rattle.std.specs.List.{slice_split}

@@ -1,4 +1,5 @@
 -- Lists with one more at their end, and texts of one part.
+-- for: positions_of
 use Rattle.std.proofs.Common.{◌≡◌, refl, ℕ, true, List, [], ◌∷◌, ◌++◌, ap, ◌∙◌}
 use Rattle.std.specs.List.{AllByRecursion, list_all, onto_first, slice_split}
 use Rattle.std.specs.Prelude.{not}

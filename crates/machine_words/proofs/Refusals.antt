@@ -1,4 +1,5 @@
 -- Readings that are not refused.
+-- for: crates above
 use Rattle.std.proofs.Common.{◌≡◌, ℕ, Result, Ok, Err}
 use Rattle.line_text.specs.declared.reader.LineRefused.{LineRefused}
 use Rattle.machine_words.specs.Rules.{refused_by}

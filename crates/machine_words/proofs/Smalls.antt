@@ -1,4 +1,5 @@
 -- What words are read as is small.
+-- for: inputs_are_fit
 use Rattle.std.proofs.Common.{◌≡◌, ◌↔◌, ℕ, ◌*◌, ◌/◌, ◌^◌, ◌≤◌, ℤ, Bool, Some, Result, Ok, Err, List, [], ◌∷◌, refl, sym, subst, inl, inr, lit≤}
 use Rattle.std.specs.Prelude.{unsigned_abs}
 use Rattle.std.specs.List.{AllByRecursion}

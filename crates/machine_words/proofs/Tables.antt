@@ -1,4 +1,5 @@
 -- Points that make a cam table, and points that are refused.
+-- for: add_table
 use Rattle.std.proofs.Common.{◌≡◌, ℕ, ◌<◌, ℤ, true, false, List, [], ◌∷◌, ◌++◌, length, Ok, Err, refl, sym, ap, inl, inr, arith}
 use Rattle.std.specs.Prelude.{◌↔◌, ◌≢◌, nat_le, not}
 use Rattle.std.proofs.lemmas.Bool.{cases_Bool, cases_lt, le-leb, leb-true}

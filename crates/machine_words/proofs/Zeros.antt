@@ -1,4 +1,5 @@
 -- Small numbers, and zeros after them.
+-- for: inputs_are_fit, positions_from
 use Rattle.std.proofs.Common.{◌≡◌, ℕ, zero, suc, ◌-◌, ◌≤◌, ℤ, List, [], ◌∷◌, ◌++◌, length, drop, refl, ap, arith, lit≤}
 use Rattle.std.specs.Prelude.{pos, replicate, slice_index_or, unsigned_abs}
 use Rattle.std.specs.List.{AllByRecursion}

@@ -1,4 +1,5 @@
 -- How long the names of kinds of block are.
+-- for: motion_kind_name
 use Rattle.std.specs.Prelude.{◌≤◌, length}
 use Rattle.std.proofs.Common.{lit≤}
 use Rattle.command_pool.specs.declared.kind.BlockKind.{BlockKind}

@@ -1,4 +1,5 @@
 -- How the program ends by what was asked, as the code has it.
+-- for: top_of_args, top
 use Rattle.std.specs.Prelude.{◌≡◌, ◌⊎◌, ℕ, Option, Some, None, Result, Ok, Err, List, IfOk, OnErr}
 use Rattle.std.specs.Option.{option_map}
 use Rattle.std.proofs.Common.{ap, inl, inr, subst, sym}

@@ -1,4 +1,5 @@
 -- How the program ends by what a read of the file found.
+-- for: top
 use Rattle.std.specs.Prelude.{◌≡◌, ◌⊎◌, ◌≤◌, ◌<◌, refl, ℕ, Bool, true, false, Option, Some, None, IsSomeAnd, List, length}
 use Rattle.std.proofs.Common.{inl, inr, sym, ap, subst, arith}
 use Rattle.bench_job.specs.Plans.{bench_plan}

@@ -1,4 +1,5 @@
 -- What the end of a job with a file says of its status.
+-- for: top
 use Rattle.std.specs.Prelude.{◌≡◌, ◌≢◌, ◌⊎◌, refl, ℕ, Bool, true, false, not, Option, Some, None, IsSomeAnd, List}
 use Rattle.std.proofs.Common.{inl, inr, ap}
 use Rattle.command_words.specs.Requests.{FileJob, of_file}

@@ -1,4 +1,5 @@
 -- What the end of a report says of its status.
+-- for: top
 use Rattle.std.specs.Prelude.{◌≡◌, ◌⊎◌, refl, ℕ, true, false, Option, Some, None, IsSomeAnd, List}
 use Rattle.std.proofs.Common.{◌∙◌, inl, inr, sym, ap}
 use Rattle.command_words.specs.Requests.{Report, of_scope, of_switches}

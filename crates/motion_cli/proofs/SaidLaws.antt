@@ -1,4 +1,5 @@
 -- What is said of how the program ends, by how it ended.
+-- for: top
 use Rattle.std.specs.Prelude.{◌≡◌, ◌⊎◌, refl, ℕ, Bool, true, false, not, Option, Some, None, IsSomeAnd, List}
 use Rattle.std.proofs.Common.{◌∙◌, inl, inr, sym, ap, subst}
 use Rattle.bench_job.specs.Causes.{BenchCause, HasRoomFor}

@@ -1,4 +1,5 @@
 -- Lists without two equal elements, and lists of names, with one more.
+-- for: configurations_are_sound, room_left
 use Rattle.std.specs.Prelude.{◌≡◌, refl, ℕ, Bool, true, false, ◌||◌, not, nat_eq, List, [], ◌∷◌, ◌++◌}
 use Rattle.std.specs.List.{AllByRecursion, IsDistinct, flat_map, list_all, list_any}
 use Rattle.std.specs.Bool.{Decides}

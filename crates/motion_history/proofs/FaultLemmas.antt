@@ -1,4 +1,5 @@
 -- What holds of an item that is not refused.
+-- for: axis, block, group and others
 use Rattle.std.specs.Prelude.{◌≡◌, refl, ℕ, ◌<◌, ◌≤◌, ℤ, Bool, true, false, ◌&&◌, ◌||◌, not, nat_le, nat_lt, if◌then◌else◌, Option, Some, None, List, length}
 use Rattle.std.proofs.lemmas.Bool.{and_parts, leb-false, leb-true, ltb-false, not-false, or_parts}
 use Rattle.kin_core.specs.declared.limits.Limits.{Limits}

@@ -1,4 +1,5 @@
 -- A history keeps its arrays in step with its entries.
+-- for: room_left
 use Rattle.std.specs.Prelude.{◌≡◌, refl, ℕ, ◌+◌, ◌-◌, ◌*◌, ◌≤◌, ◌<◌, List, [], ◌∷◌, ◌++◌, drop, length, vec_len, vec_capacity, slice_get, Option, Some}
 use Rattle.std.specs.Option.{option_map}
 use Rattle.std.proofs.Common.{Vec, Global, ◌∙◌, sym, ap, arith}

@@ -1,4 +1,5 @@
 -- What the tests of an axis's ranges say.
+-- for: configurations_are_sound, axes_are_in_range
 use Rattle.std.specs.Prelude.{◌≡◌, ◌-◌, ◌/◌, ◌%◌, ◌^◌, pos, negsuc, neg_ℤ, ℤ, ◌-ℤ◌, ◌≤ℤ◌, ◌<ℤ◌, unsigned_abs, true, ◌&&◌, int_le, int_lt}
 use Rattle.std.specs.Int.{int_div_euclid, int_rem_euclid}
 use Rattle.std.proofs.Common.{arith}

@@ -1,4 +1,5 @@
 -- What a configuration keeps, as facts.
+-- for: configurations_are_sound
 use Rattle.std.specs.Prelude.{◌≡◌, true, nat_lt, length}
 use Rattle.std.specs.List.{flat_map}
 use Rattle.std.proofs.lemmas.Bool.{and_parts, ltb-true}

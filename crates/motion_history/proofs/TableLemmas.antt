@@ -1,4 +1,5 @@
 -- Why a cam table is refused.
+-- for: new_table
 use Rattle.std.specs.Prelude.{◌≡◌, ◌≢◌, refl, ℕ, ℤ, Bool, true, false, List, nat_le, Result, Err, if◌then◌else◌}
 use Rattle.std.proofs.Common.{◌∙◌, sym, ap, subst, arith, inl, inr}
 use Rattle.std.proofs.lemmas.Bool.{cases_Bool, leb-true, leb-false}

@@ -1,4 +1,5 @@
 -- A history whose room was touched is the one that it was.
+-- for: touch
 use Rattle.std.specs.Prelude.{◌≡◌, ◌≤◌, ◌*◌, drop, vec_capacity, vec_len}
 use Rattle.std.proofs.Common.{Vec, Global, ◌∙◌, ap, arith, sym}
 use Rattle.axis_state.specs.declared.definition.AxisRow.{AxisRow}

@@ -1,5 +1,6 @@
 -- The numbers that a history keeps have the bits of their types, and the last cycle that it keeps
 -- is the last that was made.
+-- for: has_bits, last_cycle, push_group_row and others
 use Rattle.std.specs.Prelude.{◌≡◌, refl, ℕ, ◌+◌, ◌-◌, ◌*◌, ◌≤◌, zero, suc, List, [], ◌∷◌, ◌++◌, drop, slice_get, take, All, Option, Some, None}
 use Rattle.std.specs.List.{AllByRecursion}
 use Rattle.std.specs.Option.{option_map}

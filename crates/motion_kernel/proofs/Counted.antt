@@ -1,4 +1,5 @@
 -- The rows of a past are counted.
+-- for: rows_are_counted
 use Rattle.std.specs.Prelude.{◌≡◌, refl, ℕ, pos, zero, suc, ◌+◌, ◌*◌, ◌^◌, ◌<◌, ◌≤◌, ℤ, neg_ℤ, ◌-ℤ◌, ◌≤ℤ◌, unsigned_abs, List, [], ◌∷◌, ◌++◌, length, slice_index_or, FitsSigned}
 use Rattle.std.specs.Int.{w64}
 use Rattle.std.specs.List.{AllZip}

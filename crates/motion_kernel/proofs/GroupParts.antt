@@ -1,4 +1,5 @@
 -- A group among the kernel's parts, as the machine has it.
+-- for: machines_stay_kept
 use Rattle.std.specs.Prelude.{◌≡◌, refl, ℕ, ◌<◌, false, [], List, Option, Some, None, is_some, length, map, slice_index_or, slice_set}
 use Rattle.std.proofs.Common.{ap, sym, ◌∙◌}
 use Rattle.std.proofs.lemmas.List.{map-set, get_or-map, set-get_or}

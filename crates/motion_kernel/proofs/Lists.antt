@@ -1,4 +1,5 @@
 -- Lists by their places.
+-- for: rows_are_counted, owners_have_blocks, machines_stay_kept and others
 use Rattle.std.specs.Prelude.{◌≡◌, refl, ℕ, zero, suc, ◌<◌, ◌≤◌, ◌≢◌, Some, List, [], ◌∷◌, ◌++◌, length, map, slice_get, slice_index_or, slice_set}
 use Rattle.std.proofs.Common.{arith, ap}
 use Rattle.std.proofs.Math.Seq.{set_out}

@@ -1,4 +1,5 @@
 -- The marks of tasks at opening and with one entry more.
+-- for: call, cycle, end and others
 use Rattle.std.specs.Prelude.{◌≡◌, refl, ℕ, suc, zero, ◌+◌, ◌<◌, ◌≤◌, Bool, true, false, not, ◌&&◌, ◌||◌, nat_eq, Option, Some, None, if◌then◌else◌, List, [], ◌∷◌, ◌++◌, length, map, replicate, reverse, slice_get, slice_set, take}
 use Rattle.std.specs.List.{filter, list_any, take_while}
 use Rattle.std.proofs.Common.{arith, ap, sym, ◌∙◌, inl, inr}

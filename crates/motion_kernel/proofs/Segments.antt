@@ -1,4 +1,5 @@
 -- Segments that follow each other are one history.
+-- for: segments_join
 use Rattle.std.specs.Prelude.{◌≡◌, refl, ℕ, ◌+◌, List, [], ◌∷◌, ◌++◌}
 use Rattle.std.proofs.Common.{arith, subst, ◌∙◌}
 use Rattle.motion_history.specs.Entries.{Entry, call, cycle, cycle_count, cycles_of, end_of}

@@ -1,4 +1,5 @@
 -- How many parts the machine has.
+-- for: rows_are_counted, owners_have_blocks, machines_stay_kept and others
 use Rattle.std.specs.Prelude.{◌≡◌, ℕ, ◌<◌, Bool, true, false, if◌then◌else◌, Option, Some, None, Result, List, [], ◌∷◌, length}
 use Rattle.std.proofs.Common.{arith, ◌∙◌}
 use Rattle.std.proofs.lemmas.List.{length-map, length-set}

@@ -7,3 +7,4 @@ pub mod PathsEnd
 pub mod Standing
 pub mod Slowing
 pub mod Along
+pub mod Braking

@@ -6,6 +6,7 @@ use Rattle.motion_history.specs.Setup.{Setup}
 use Rattle.motion_kernel.specs.Counted.{RowsAreCounted}
 use Rattle.motion_kernel.specs.Histories.{machine_after}
 use Rattle.motion_laws.specs.arrivals.Along.{RowsFollow}
+use Rattle.motion_laws.specs.arrivals.Braking.{GroupHaltsSlow}
 use Rattle.motion_laws.specs.arrivals.Moves.{MovesArrive}
 use Rattle.motion_laws.specs.arrivals.Rows.{RowsStand}
 use Rattle.motion_laws.specs.arrivals.Slowing.{HaltsSlow}
@@ -25,8 +26,8 @@ use Rattle.motion_laws.specs.limits.Safe.{IsSafe}
 -- of such an end, stays while Execute is true, and goes with it; commands end by their kinds; a
 -- move is Done at its target; rows show that moves, Halts and Stops end in time; the places of each
 -- row's axis have counts; each error that a row shows has its cause; a call is refused by the first
--- ErrorID whose condition holds, and only then; and rows slow down under a Halt, and follow their
--- group's line
+-- ErrorID whose condition holds, and only then; rows slow down under a Halt, follow their group's
+-- line, and slow down along it under a GroupHalt
 pub record KeepsLaws (s : Setup) (es : List Entry) : Type 0 where
   pub limits : KeepTheirLimits s es
   pub safe : (made more : List Entry) → es ≡ made ++ more → IsSafe s (machine_after s made)
@@ -45,3 +46,4 @@ pub record KeepsLaws (s : Setup) (es : List Entry) : Type 0 where
   pub refusals : RefusalsAreFirst s es
   pub halts : HaltsSlow s es
   pub lines : RowsFollow s es
+  pub group_halts : GroupHaltsSlow s es

@@ -6,3 +6,4 @@ pub mod Paths
 pub mod Rows
 pub mod Slowing
 pub mod Along
+pub mod Braking

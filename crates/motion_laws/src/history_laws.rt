@@ -35,7 +35,8 @@ use motion_kernel::{rows_are_counted, segments_join};
 /// target; rows show that moves, Halts and Stops end in time; no Home moves an axis out of the
 /// counts of its drive; each error that a row shows has its cause in the entries so far; a call is
 /// refused by the first ErrorID of its kind's table whose condition holds, and only where one does;
-/// and rows slow down under a Halt and a Stop, and follow the line of their group.
+/// and rows slow down under a Halt and a Stop, follow the line of their group, and slow down along
+/// it under a GroupHalt and a GroupStop.
 pub fn pasts_keep_their_laws()
     ensures { (s : Setup) (es : List Entry) → IsSetup s → AreWhole s → IsPast s es →
         KeepsLaws s es }

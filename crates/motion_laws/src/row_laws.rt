@@ -10,6 +10,7 @@ ghost use Rattle.motion_kernel.specs.Machine.{Machine};
 ghost use Rattle.motion_kernel.specs.cycles.Cycles.{after_cycle};
 ghost use Rattle.motion_kernel.specs.kept.Machine.{AreWhole, IsMachineKept};
 ghost use Rattle.motion_laws.specs.arrivals.Along.{RowsFollow};
+ghost use Rattle.motion_laws.specs.arrivals.Braking.{GroupHaltsSlow};
 ghost use Rattle.motion_laws.specs.arrivals.Rows.{RowsStand};
 ghost use Rattle.motion_laws.specs.arrivals.Slowing.{HaltsSlow};
 ghost use Rattle.motion_laws.specs.entries.Errors.{ErrorsShow};
@@ -81,11 +82,18 @@ pub fn rows_slow_under_halts()
 /// Rows follow the line of their group: in every cycle of a past the row of an axis that is on its
 /// group's path after it shows its place on that path, by the one place along it, from 0 to its
 /// length, at which the group then is, and so was the setpoint before it; and under an active line
-/// the path leads to the line's targets.
+/// the path leads to the line's targets. In every cycle in which a GroupHalt or a GroupStop is
+/// active, or what brakes a path before an aborting line, and which does not end it by an error,
+/// the group takes the step along its path that brakes by the Deceleration, cut to the path's: it
+/// slows down by at least that, as far as rest, and does not turn back, and each row of its axes
+/// shows the axis's place after that step.
 pub fn rows_follow_lines()
     ensures rows { (s : Setup) (es : List Entry) → IsSetup s → AreWhole s → IsPast s es →
         RowsFollow s es }
+    ensures halts { (s : Setup) (es : List Entry) → IsSetup s → AreWhole s → IsPast s es →
+        GroupHaltsSlow s es }
 {
+    braking_steps_are_only_cut();
     rows_show_the_machine();
     machines_stay_kept();
     group_fates_are_told();

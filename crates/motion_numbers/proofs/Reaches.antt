@@ -1,4 +1,5 @@
 -- The greatest step whose way to rest fits the room.
+-- for: greatest_ramp, greatest_ramp_below, ways_to_rest
 use Rattle.std.proofs.Common.{◌≡◌, ℕ, ◌<◌, ◌≤◌, zero, suc, nat_le, unwrap_or, inl, inr, arith}
 use Rattle.std.proofs.lemmas.Bool.{cases_lt, leb-true, le-leb}
 use Rattle.motion_numbers.specs.Run.{run_of, reach_of}

@@ -1,4 +1,5 @@
 -- Sums of ramps: what a proof on whole numbers needs of them.
+-- for: greatest_ramp, greatest_ramp_below, ramp_sum and others
 use Rattle.std.proofs.Common.{◌≡◌, ℕ, ◌+◌, ◌-◌, ◌*◌, ◌/◌, ◌%◌, ◌<◌, ◌≤◌, zero, suc, ℤ, pos, negsuc, refl, sym, ◌∙◌, ap, arith}
 use Rattle.std.proofs.Math.Nat.{le_of_mul-le-mul_left}
 use Rattle.std.proofs.lemmas.Nat.{div-add-mod'}

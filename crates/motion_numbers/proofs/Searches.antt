@@ -1,4 +1,5 @@
 -- What a search for the greatest number that passes a test finds.
+-- for: greatest_ramp, greatest_ramp_below, searches_find_the_greatest and others
 use Rattle.std.proofs.Common.{◌≡◌, ℕ, zero, suc, ◌≤◌, Bool, true, false, Option, Some, None, arith, refl, ◌∙◌, ap, sym, inl, inr, if◌then◌else◌}
 use Rattle.std.proofs.lemmas.Bool.{cases_lt, cond-true, cond-false}
 use Rattle.motion_numbers.specs.Greatest.{greatest, IsFound}

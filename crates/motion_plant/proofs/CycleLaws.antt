@@ -1,4 +1,5 @@
 -- Each cycle of a history is one of the entries that the cycles made.
+-- for: cycles_take_the_answers, cycles_end_with_the_tasks
 use Rattle.std.proofs.Common.{◌≡◌, ℕ, suc, ◌+◌, ◌<◌, ◌≤◌, ◌++◌, ◌∷◌, [], List, length, Some, ap, ◌∙◌, arith, length-append}
 use Rattle.std.specs.Prelude.{Bool, true, false, ◌==◌, slice_get}
 use Rattle.axis_state.specs.declared.definition.AxisRow.{AxisRow}

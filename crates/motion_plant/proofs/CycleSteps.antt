@@ -1,4 +1,5 @@
 -- A step of the loop of the cycles, and where it begins.
+-- for: run_plant
 use Rattle.std.proofs.Common.{◌≡◌, ℕ, zero, suc, ◌<◌, ◌≤◌, List, [], ◌∷◌, ◌++◌, length, map, refl, sym, ap, ◌∙◌, subst, arith}
 use Rattle.std.specs.Prelude.{slice_get}
 use Rattle.cia402_machine.specs.declared.drive.DriveIn.{DriveIn}

@@ -1,4 +1,5 @@
 -- Cycle by cycle, the lines have the columns.
+-- for: run_plant
 use Rattle.std.proofs.Common.{◌≡◌, ℕ, zero, suc, ◌+◌, List, [], ◌∷◌, ◌++◌, length, map, Some, false, refl, sym, ap, ◌∙◌, subst, arith}
 use Rattle.std.specs.Prelude.{slice_get, slice_index_or}
 use Rattle.axis_state.specs.declared.definition.AxisRow.{AxisRow}

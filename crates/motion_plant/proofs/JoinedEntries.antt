@@ -1,4 +1,5 @@
 -- The entries of joined tickets.
+-- for: cycles_take_the_answers, cycles_end_with_the_tasks
 use Rattle.std.proofs.Common.{◌≡◌, ℕ, suc, ◌+◌, ◌<◌, ◌≤◌, List, [], ◌++◌, length, Bool, true, Some, eq-eqb, eqb-true, refl, sym, ap, ◌∙◌, subst, arith, append-nil, ⊎_elim}
 use Rattle.std.specs.Prelude.{slice_get, ◌&&◌, ◌==◌}
 use mathlib.Core.List.{IsPrefix}

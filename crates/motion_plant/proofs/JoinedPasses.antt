@@ -1,4 +1,5 @@
 -- Stops, joins and the close, one by one.
+-- for: run_plant
 use Rattle.std.proofs.Common.{◌≡◌, ℕ, zero, suc, ◌+◌, ◌<◌, ◌≤◌, List, [], ◌∷◌, ◌++◌, length, Bool, true, false, Some, refl, sym, ap, ◌∙◌, subst, arith, append_assoc, append-nil, ⊎_elim}
 use Rattle.std.specs.Prelude.{slice_get, ◌||◌, ◌==◌}
 use mathlib.Core.List.{IsPrefix}

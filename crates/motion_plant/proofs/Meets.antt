@@ -1,4 +1,5 @@
 -- The joins and the close give the whole.
+-- for: run_plant
 use Rattle.std.proofs.Common.{◌≡◌, ℕ, suc, ◌+◌, ◌<◌, ◌≤◌, List, length, map, take, Option, Some, Bool, true, false, refl, sym, ap, ◌∙◌, subst, arith, length-append, inl, inr}
 use Rattle.std.specs.Prelude.{slice_get, ◌||◌}
 use mathlib.Core.List.{IsPrefix}

@@ -1,4 +1,5 @@
 -- The entries of tickets, entry by entry.
+-- for: cycles_take_the_answers, cycles_end_with_the_tasks
 use Rattle.std.proofs.Common.{◌≡◌, ℕ, suc, ◌+◌, ◌<◌, ◌≤◌, List, [], ◌∷◌, ◌++◌, length, Bool, true, false, Some, eq-eqb, eqb-true, refl, sym, ap, ◌∙◌, subst, arith, length-append, append_assoc, append-nil, ◌⊎◌, ⊎_elim}
 use Rattle.std.specs.Prelude.{slice_get, ◌||◌, ◌==◌}
 use Rattle.std.proofs.lemmas.Bool.{false_from_ne_true, or_cases, or_left, or_right}

@@ -1,4 +1,5 @@
 -- What was started, one by one.
+-- for: run_plant
 use Rattle.std.proofs.Common.{◌≡◌, ℕ, suc, ◌+◌, List, [], ◌∷◌, ◌++◌, length, map, Option, Some, refl, sym, ap, ◌∙◌, subst, arith, append_assoc, append-nil, length-append}
 use Rattle.std.specs.Prelude.{slice_get, false}
 use Rattle.std.specs.declared.snapshot.Snapshot.{Snapshot}

@@ -1,5 +1,6 @@
 -- What a move keeps by its own rates in the way to its target the limits keep in the room, so that
 -- its step is the one taken.
+-- for: moves_are_done
 use Rattle.std.proofs.Common.{◌≡◌, ℕ, ◌≤◌, ℤ, pos, neg_ℤ, ◌+ℤ◌, ◌-ℤ◌, ◌≤ℤ◌, ◌<ℤ◌, unsigned_abs, arith, refl}
 use Rattle.std.proofs.lemmas.Int.{ints}
 use Rattle.motion_numbers.specs.declared.TheConstants.{MOST_STEP}
@@ -25,14 +26,14 @@ use Rattle.otg.specs.Own.{Rises, Falls, HasTargetAbove, HasTargetBelow, IsOwnMov
 use Rattle.otg.proofs.Opens.{jerk_limits_of, open_after, taken_safe, step_after}
 
 -- what the own rates keep in less room the limits keep
-more_kept : (own rates : JerkRates) (way room w v : ℕ) → AreJerkRates own → AreRatesWithin own rates → way ≤ room →
+pub more_kept : (own rates : JerkRates) (way room w v : ℕ) → AreJerkRates own → AreRatesWithin own rates → way ≤ room →
     IsKeptBy own way w v → IsKeptBy rates room w v
 more_kept own rates way room w v ok within less kept =
     kept_by_more own.v own.a own.d own.j way rates.v rates.a rates.d rates.j room w v (omega (arith, ok.d_least)) (omega (arith, ok.j_least))
     within.v within.a within.d within.j less kept
 
 -- and what is safe by them is safe
-more_safe : (own rates : JerkRates) (way room w v x : ℕ) → AreJerkRates own → AreRatesWithin own rates → way ≤ room →
+pub more_safe : (own rates : JerkRates) (way room w v x : ℕ) → AreJerkRates own → AreRatesWithin own rates → way ≤ room →
     IsSafeBy own way w v x → IsSafeBy rates room w v x
 more_safe own rates way room w v x ok within less safe =
     safe_by_more own.v own.a own.d own.j way rates.v rates.a rates.d rates.j room w v x (omega (arith, ok.d_least)) (omega (arith, ok.j_least))
@@ -106,7 +107,7 @@ pub same_own : (own rates : JerkRates) (l w v l1 w1 v1 x : ℕ) → own ≡ rate
 same_own own rates l w v l1 w1 v1 x same p q r move = rw (same, p, q, r) at move
 
 -- the motion downward
-motion_down : (limits : JerkLimits) (first before now : ℤ) → Motion
+unfoldable pub motion_down : (limits : JerkLimits) (first before now : ℤ) → Motion
 motion_down limits first before now = record {
   ahead = unsigned_abs (now -ℤ limits.axis.lo);
   behind = unsigned_abs (limits.axis.hi -ℤ now);
@@ -114,7 +115,7 @@ motion_down limits first before now = record {
   speed = unsigned_abs (now -ℤ before);
 }
 
-counts_down : (limits : JerkLimits) (first before now : ℤ) → before ≤ℤ first → now ≤ℤ before → limits.axis.lo ≤ℤ now → now ≤ℤ limits.axis.hi →
+pub counts_down : (limits : JerkLimits) (first before now : ℤ) → before ≤ℤ first → now ≤ℤ before → limits.axis.lo ≤ℤ now → now ≤ℤ limits.axis.hi →
     IsMotionDown limits first before now (motion_down limits first before now)
 unfolding motion_down
 counts_down limits first before now falls on above below = record {

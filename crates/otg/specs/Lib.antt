@@ -1,2 +1,3 @@
 pub mod Open
 pub mod Own
+pub mod Runs

@@ -6,11 +6,13 @@
 
 mod commands;
 mod generator;
+mod laws;
 mod opening;
 mod own;
 mod stepping;
 
 pub use commands::{otg_halt, otg_move, otg_velocity};
 pub use generator::Otg;
+pub use laws::moves_are_done;
 pub use opening::{otg_is_open, otg_open};
-pub use stepping::otg_step;
+pub use stepping::{otg_step, step_counted};

@@ -1,12 +1,13 @@
 // Whether a generator is open, and opening it.
 
-ghost use Rattle.std.specs.Prelude.{◌≡◌, ◌≢◌, ◌↔◌, IsTrue, pos, ◌≤ℤ◌};
+ghost use Rattle.std.specs.Prelude.{◌≡◌, ◌≢◌, ◌↔◌, IsTrue, ◌+◌, ◌≤◌, pos, ◌≤ℤ◌};
 ghost use Rattle.jerk_core.specs.Rates.{AreJerkRates};
 ghost use Rattle.otg.specs.Open.{AreLimitsOf, ArePlaces, AreGains, IsCommandOf, IsTargetOf, IsOpen, resting_of};
 
 use crate::generator::{Otg, limits, own_rates, setpoints};
-use jerk_core::{JerkRates, is_kept};
+use jerk_core::{JerkRates, Looks, is_kept, is_kept_counted};
 use motion_numbers::{MOST_PLACE, MOST_STEP};
+use std::sync::ledger::Ledger;
 
 /// What a call answers: what was asked was done.
 pub const OK: u32 = 0;
@@ -62,6 +63,20 @@ pub(crate) fn is_open(otg: &Otg) -> bool
     ensures { IsTrue result ↔ IsOpen otg.now }
 {
     are_limits(otg) && is_command(otg) && is_kept(&limits(otg), &setpoints(otg))
+}
+
+// The same, with its look at the way to rest counted.
+pub(crate) fn is_open_counted<L: Ledger>(otg: &Otg, looks: &mut Looks<L>) -> bool
+    ensures value { IsTrue result ↔ IsOpen otg.now }
+    ensures cost { looks.new ≤ looks.old + 1 }
+{
+    if !are_limits(otg) {
+        return false;
+    }
+    if !is_command(otg) {
+        return false;
+    }
+    is_kept_counted(&limits(otg), &setpoints(otg), looks)
 }
 
 // Whether the limits are in their ranges.

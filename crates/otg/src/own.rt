@@ -1,7 +1,7 @@
 // Steps of moves that keep their own rates in the way to their target: what they keep, the limits
 // keep, so that their step is safe and nothing else is to be looked at.
 
-ghost use Rattle.std.specs.Prelude.{◌≡◌, ◌↔◌, IsTrue, ℕ, ◌*◌, ◌≤◌, Some, pos, false, ◌≤ℤ◌, ◌+ℤ◌, ◌-ℤ◌, unsigned_abs};
+ghost use Rattle.std.specs.Prelude.{◌≡◌, ◌↔◌, IsTrue, ℕ, ◌+◌, ◌*◌, ◌≤◌, Some, pos, false, ◌≤ℤ◌, ◌+ℤ◌, ◌-ℤ◌, unsigned_abs};
 ghost use Rattle.motion_numbers.specs.Ranges.{IsPlace};
 ghost use Rattle.jerk_core.specs.Admissible.{rates_of};
 ghost use Rattle.jerk_core.specs.Rates.{AreJerkRates, AreRatesWithin};
@@ -12,13 +12,16 @@ ghost use Rattle.otg.specs.Own.{Rises, Falls, HasTargetAbove, HasTargetBelow, Is
 use crate::generator::{Otg, own_rates};
 use crate::opening::{are_limits, is_command};
 use crate::stepping::shifted;
+use jerk_core::Looks;
 use jerk_plan::own_speed;
+use std::sync::ledger::Ledger;
 
 /// Goes a step up by the move's own rates, where they keep the motion. Else nothing changes.
-pub(crate) fn steps_up(otg: &mut Otg) -> bool
+pub(crate) fn steps_up<L: Ledger>(otg: &mut Otg, looks: &mut Looks<L>) -> bool
     ensures opened { IsTrue result → IsOpen otg.old × IsOpen otg.new }
     ensures step { IsTrue result → IsStepOf otg.old otg.new }
     ensures same { result ≡ false → otg.new ≡ otg.old }
+    ensures cost { looks.new ≤ looks.old + 75 }
 {
     if !rises(otg) {
         return false;
@@ -29,7 +32,7 @@ pub(crate) fn steps_up(otg: &mut Otg) -> bool
     if !is_own_move(otg) {
         return false;
     }
-    let Some(speed) = speed_of_move(otg) else {
+    let Some(speed) = speed_of_move(otg, looks) else {
         return false;
     };
     let next = shifted(otg, above(otg.current, speed));
@@ -38,10 +41,11 @@ pub(crate) fn steps_up(otg: &mut Otg) -> bool
 }
 
 /// Goes a step down by the move's own rates, where they keep the motion. Else nothing changes.
-pub(crate) fn steps_down(otg: &mut Otg) -> bool
+pub(crate) fn steps_down<L: Ledger>(otg: &mut Otg, looks: &mut Looks<L>) -> bool
     ensures opened { IsTrue result → IsOpen otg.old × IsOpen otg.new }
     ensures step { IsTrue result → IsStepOf otg.old otg.new }
     ensures same { result ≡ false → otg.new ≡ otg.old }
+    ensures cost { looks.new ≤ looks.old + 75 }
 {
     if !falls(otg) {
         return false;
@@ -52,7 +56,7 @@ pub(crate) fn steps_down(otg: &mut Otg) -> bool
     if !is_own_move(otg) {
         return false;
     }
-    let Some(speed) = speed_of_move(otg) else {
+    let Some(speed) = speed_of_move(otg, looks) else {
         return false;
     };
     let next = shifted(otg, below(otg.current, speed));
@@ -115,16 +119,18 @@ fn are_rates_within(otg: &Otg) -> bool
 }
 
 // The speed of the move, where its own rates keep the motion.
-fn speed_of_move(otg: &Otg) -> Option<u64>
+fn speed_of_move<L: Ledger>(otg: &Otg, looks: &mut Looks<L>) -> Option<u64>
     requires own { IsOwnMove otg.now }
-    ensures { (x : ℕ) → result ≡ Some x → IsMoveOf (rates_of_command otg.now) (unsigned_abs (otg.now.target -ℤ otg.now.current))
+    ensures found { (x : ℕ) → result ≡ Some x → IsMoveOf (rates_of_command otg.now) (unsigned_abs (otg.now.target -ℤ otg.now.current))
         (unsigned_abs (otg.now.before -ℤ otg.now.first)) (unsigned_abs (otg.now.current -ℤ otg.now.before)) x }
+    ensures cost { looks.new ≤ looks.old + 75 }
 {
     own_speed(
         &own_rates(otg),
         otg.target.abs_diff(otg.current),
         otg.before.abs_diff(otg.first),
         otg.current.abs_diff(otg.before),
+        looks,
     )
 }
 

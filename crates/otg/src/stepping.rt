@@ -1,15 +1,17 @@
 // Steps.
 
-ghost use Rattle.std.specs.Prelude.{◌≡◌, ◌↔◌, ◌+◌, ◌*◌, ◌≤◌, ℤ, ◌+ℤ◌, ◌-ℤ◌, unsigned_abs};
+ghost use Rattle.std.specs.Prelude.{◌≡◌, ◌↔◌, ◌+◌, ◌*◌, ◌<◌, ◌≤◌, ℤ, ◌+ℤ◌, ◌-ℤ◌, unsigned_abs};
 ghost use Rattle.motion_numbers.specs.Ranges.{IsPlace, IsStep, IsWay};
 ghost use Rattle.otg.specs.Open.{IsOpen, IsStepOf, IsStepTaken, IsWantedStep, shifted_of};
 
 use crate::generator::{Otg, limits, own_rates, setpoints};
-use crate::opening::{INVALID, OK, is_open};
+use crate::opening::{INVALID, OK, is_open_counted};
 use crate::own::{steps_down, steps_up};
-use jerk_core::nearest_safe;
-use jerk_plan::{halt_step, move_step, velocity_step};
+use jerk_core::{Looks, nearest_safe_counted};
+use jerk_plan::{halt_step, move_step_counted, velocity_step};
 use motion_numbers::{MOST_STEP, MOST_WAY};
+use std::marker::Brand;
+use std::sync::ledger::{Blank, Ledger};
 
 /// Goes through a cycle: the next setpoint is in `current`.
 #[unsafe(no_mangle)]
@@ -19,26 +21,53 @@ pub extern "C" fn otg_step(otg: &mut Otg) -> u32
     ensures step { result ≡ 0 → IsStepOf otg.old otg.new }
     ensures same { result ≡ 1 → otg.new ≡ otg.old }
 {
-    if steps_up(otg) {
-        return OK;
-    }
-    if steps_down(otg) {
-        return OK;
-    }
-    step_by_any(otg)
+    step_by::<Brand>(otg, Blank::new(1))
 }
 
-// The same, for any motion and command.
-fn step_by_any(otg: &mut Otg) -> u32
+// The same for any ledger, whose counter nobody reads.
+fn step_by<L: Ledger>(otg: &mut Otg, blank: Blank) -> u32
+    requires name { blank.name ≡ L.name }
+    requires parts { blank.parts ≡ L.parts }
+    requires some { 0 < blank.parts }
     ensures code { (result ≡ 0) ↔ IsOpen otg.old }
     ensures opened { result ≡ 0 → IsOpen otg.new }
     ensures step { result ≡ 0 → IsStepOf otg.old otg.new }
     ensures same { result ≡ 1 → otg.new ≡ otg.old }
 {
-    if !is_open(otg) {
+    let mut looks = Looks::<L>::open(blank);
+    step_counted(otg, &mut looks)
+}
+
+/// The same, with its looks at the way to rest counted.
+pub fn step_counted<L: Ledger>(otg: &mut Otg, looks: &mut Looks<L>) -> u32
+    ensures code { (result ≡ 0) ↔ IsOpen otg.old }
+    ensures opened { result ≡ 0 → IsOpen otg.new }
+    ensures step { result ≡ 0 → IsStepOf otg.old otg.new }
+    ensures same { result ≡ 1 → otg.new ≡ otg.old }
+    ensures cost { looks.new ≤ looks.old + 300 }
+{
+    if steps_up(otg, looks) {
+        return OK;
+    }
+    if steps_down(otg, looks) {
+        return OK;
+    }
+    step_by_any(otg, looks)
+}
+
+// The same, for any motion and command.
+fn step_by_any<L: Ledger>(otg: &mut Otg, looks: &mut Looks<L>) -> u32
+    ensures code { (result ≡ 0) ↔ IsOpen otg.old }
+    ensures opened { result ≡ 0 → IsOpen otg.new }
+    ensures step { result ≡ 0 → IsStepOf otg.old otg.new }
+    ensures same { result ≡ 1 → otg.new ≡ otg.old }
+    ensures cost { looks.new ≤ looks.old + 150 }
+{
+    if !is_open_counted(otg, looks) {
         return INVALID;
     }
-    let next = shifted(otg, next_setpoint(otg));
+    let setpoint = next_setpoint(otg, looks);
+    let next = shifted(otg, setpoint);
     *otg = next;
     OK
 }
@@ -56,20 +85,23 @@ pub(crate) fn shifted(otg: &Otg, next: i64) -> Otg
 }
 
 // The next setpoint.
-fn next_setpoint(otg: &Otg) -> i64
+fn next_setpoint<L: Ledger>(otg: &Otg, looks: &mut Looks<L>) -> i64
     requires opened { IsOpen otg.now }
     ensures taken { IsStepTaken otg.now (result -ℤ otg.now.current) }
+    ensures cost { looks.new ≤ looks.old + 149 }
 {
-    moved(otg.current, taken_step(otg))
+    moved(otg.current, taken_step(otg, looks))
 }
 
 // The step that is nearest to the command's among the safe ones.
-fn taken_step(otg: &Otg) -> i64
+fn taken_step<L: Ledger>(otg: &Otg, looks: &mut Looks<L>) -> i64
     requires opened { IsOpen otg.now }
     ensures taken { IsStepTaken otg.now result }
     ensures small { IsStep result }
+    ensures cost { looks.new ≤ looks.old + 149 }
 {
-    nearest_safe(&limits(otg), &setpoints(otg), wanted_step(otg))
+    let wanted = wanted_step(otg, looks);
+    nearest_safe_counted(&limits(otg), &setpoints(otg), wanted, looks)
 }
 
 // The setpoint a step further.
@@ -82,16 +114,17 @@ fn moved(setpoint: i64, step: i64) -> i64
 }
 
 // The step that the command wants.
-fn wanted_step(otg: &Otg) -> i64
+fn wanted_step<L: Ledger>(otg: &Otg, looks: &mut Looks<L>) -> i64
     requires opened { IsOpen otg.now }
     ensures wanted { IsWantedStep otg.now result }
     ensures small { unsigned_abs result ≤ 2 * MOST_WAY }
+    ensures cost { looks.new ≤ looks.old + 75 }
 {
     let rates = own_rates(otg);
     let last = last_step(otg);
     let speed = this_step(otg);
     if otg.kind == 1 {
-        move_step(&rates, distance(otg), last, speed)
+        move_step_counted(&rates, distance(otg), last, speed, looks)
     } else if otg.kind == 2 {
         velocity_step(&rates, otg.target, last, speed)
     } else {

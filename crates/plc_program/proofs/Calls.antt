@@ -1,4 +1,5 @@
 -- A call that is read is one of its task.
+-- for: read_program
 use Rattle.std.proofs.Common.{◌≡◌, ℕ, ◌≤◌, Some, Ok, List, [], ◌∷◌, length, refl, sym, ◌∙◌, subst}
 use Rattle.std.specs.Prelude.{◌||◌, ◌==◌, not, slice_get}
 use Rattle.std.specs.Option.{ok_or}

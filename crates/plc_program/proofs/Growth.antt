@@ -1,4 +1,5 @@
 -- Lines of tasks in a machine that gets more tasks and blocks.
+-- for: read_program
 use Rattle.std.proofs.Common.{◌≡◌, ℕ, ◌+◌, ◌<◌, zero, suc, List, [], ◌∷◌, ◌++◌, length, refl, sym, ◌∙◌, ap, subst, arith}
 use Rattle.std.specs.Prelude.{cond, slice_get}
 use Rattle.std.specs.List.{AllByRecursion}

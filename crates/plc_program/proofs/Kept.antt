@@ -1,4 +1,5 @@
 -- The invariant of a program as far as it was read is kept by each line.
+-- for: read_program
 use Rattle.std.proofs.Common.{◌≡◌, ℕ, ◌+◌, ◌<◌, ◌≤◌, Bool, true, false, Some, Result, Ok, Err, List, [], ◌∷◌, ◌++◌, length, refl, sym, ◌∙◌, ap, subst, arith, inl, inr, lit≤}
 use Rattle.std.specs.Prelude.{◌==◌, ◌||◌, OnOk, cond, nat_lt, not, slice_get}
 use Rattle.std.specs.List.{AllByRecursion}

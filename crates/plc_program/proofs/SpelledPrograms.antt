@@ -1,4 +1,5 @@
 -- A text's reading is the program that it spells.
+-- for: read_program
 use Rattle.std.proofs.Common.{◌≡◌, refl, ℕ, List, Result, Ok, Err, subst}
 use Rattle.std.specs.Prelude.{IfOk}
 use Rattle.line_text.specs.Lines.{last_line_of, lines_of}

@@ -1,4 +1,5 @@
 -- The greatest step from which the braking fits a way, from the greatest number of its terms.
+-- for: reach
 use Rattle.std.proofs.Common.{inl, inr, ◌≡◌, ℕ, zero, suc, ◌+◌, ◌-◌, ◌*◌, ◌/◌, ◌%◌, ◌≤◌, ◌<◌, min, arith, lit<, ◌∙◌, ap}
 use Rattle.std.proofs.lemmas.Nat.{div-add-mod', mod_below, mul-le}
 use Rattle.motion_numbers.specs.Run.{run_of, reach_of}

@@ -1,4 +1,5 @@
 -- Newton's steps to a root: where they begin, and that they never go below it.
+-- for: root
 use Rattle.std.proofs.Common.{inl, inr, ◌≡◌, ℕ, ◌+◌, ◌-◌, ◌*◌, ◌/◌, ◌%◌, ◌^◌, ◌<◌, ◌≤◌, arith, lit<}
 use Rattle.std.proofs.lemmas.Nat.{pow-add, pow_pos, one_shl, div-add-mod', mod_below, mul-le}
 use Rattle.std.proofs.Math.Nat.{pow-le-pow_right}

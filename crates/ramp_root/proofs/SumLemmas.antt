@@ -1,4 +1,5 @@
 -- Sums of a ramp's first terms, and their squares.
+-- for: greatest_count_counted
 use Rattle.std.proofs.Common.{inl, inr, ◌≡◌, ℕ, zero, suc, ◌+◌, ◌-◌, ◌*◌, ◌/◌, ◌%◌, ◌^◌, ◌<◌, ◌≤◌, ◌↔◌, IsTrue, nat_le, arith, ap, refl, sym, ◌∙◌}
 use Rattle.std.proofs.lemmas.Nat.{mul-le, le-div, div-add-mod'}
 use Rattle.std.proofs.lemmas.Bool.Decides.{nat_tests}

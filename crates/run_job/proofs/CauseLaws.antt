@@ -1,4 +1,5 @@
 -- What the course of a run says of its files and of its status.
+-- for: run_files
 use Rattle.std.specs.Prelude.{◌≡◌, ◌⊎◌, refl, ℕ, true, false, Option, Some, None, IfSome, List, map}
 use Rattle.std.specs.Result.{IsOk, is_ok}
 use Rattle.std.proofs.Common.{◌∙◌, inl, inr, sym, ap}

@@ -1,4 +1,5 @@
 -- What the trace of a run stands for.
+-- for: run_files
 use Rattle.std.specs.Prelude.{◌≡◌, refl, ℕ, ◌+◌, true, false, Option, Some, List, map, slice_get}
 use Rattle.std.proofs.Common.{◌∙◌, inl, inr, sym, ap, subst, arith}
 use Rattle.drive_sim.specs.Sim.{DriveSim}

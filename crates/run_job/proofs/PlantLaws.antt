@@ -1,4 +1,5 @@
 -- No plant is given where the second file gives no program of the first's machine.
+-- for: read_plant
 use Rattle.std.specs.Prelude.{◌≡◌, ℕ, Option, Result, Ok, Err, IfErr, List}
 use Rattle.std.proofs.Common.{inr, subst}
 use Rattle.job_ends.specs.declared.status.Status.{Status}

@@ -1,4 +1,5 @@
 -- What each drive took, by its log, is what its outputs lead to.
+-- for: run_files
 use Rattle.std.specs.Prelude.{◌≡◌, refl, ℕ, suc, ◌+◌, Some, List, [], ◌∷◌, length, map, slice_get, Option}
 use Rattle.std.specs.Option.{unwrap_or}
 use Rattle.std.proofs.Common.{◌∙◌, ap, subst, arith}

@@ -1,4 +1,5 @@
 -- How a run and its trace end, from what their parts did.
+-- for: run_files, run_read, write_run
 use Rattle.std.specs.Prelude.{true, false, ◌≡◌, ◌≢◌, ◌↔◌, ◌+◌, refl, ℕ, Option, Result, List, [], ◌∷◌, length, map}
 use Rattle.std.specs.Arc.{arc_value}
 use Rattle.std.proofs.Common.{◌∙◌, inr, sym, ap, subst, arith}

@@ -1,4 +1,5 @@
 -- How the job ends with a file, and what that says of its status.
+-- for: scope_file
 use Rattle.std.specs.Prelude.{◌≡◌, ◌⊎◌, ◌≤◌, ◌<◌, refl, ℕ, if◌then◌else◌, Bool, true, false, Option, Some, None, IsSomeAnd, Result, Ok, Err, List, length}
 use Rattle.std.proofs.Common.{◌∙◌, sym, ap, subst, inl, inr, ⊎_elim}
 use Rattle.job_ends.proofs.Readings.{long-text, short-text}

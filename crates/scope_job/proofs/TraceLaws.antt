@@ -1,4 +1,5 @@
 -- How the job ends with a text that was read.
+-- for: scope_file
 use Rattle.std.specs.Prelude.{◌≡◌, refl, ℕ, true, false, Option, Result, Ok, Err, List}
 use Rattle.std.specs.Result.{IsOk, is_ok}
 use Rattle.std.proofs.Common.{◌∙◌, sym, ap, subst}

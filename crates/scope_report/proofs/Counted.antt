@@ -1,4 +1,5 @@
 -- Entries are counted one after another, and shares are put after each other.
+-- for: scope
 use Rattle.std.proofs.Common.{◌≡◌, ℕ, ◌+◌, ◌^◌, ◌<◌, ◌≤◌, ◌==◌, Bool, true, false, cond, Option, Some, None, List, [], ◌∷◌, ◌++◌, length, take, slice_index_or, refl, ap, sym, ◌∙◌, subst, arith, length-append}
 use Rattle.std.specs.Prelude.{slice_get, Result, Ok, IfOk}
 use Rattle.std.specs.List.{flat_map}

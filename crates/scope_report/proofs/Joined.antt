@@ -1,4 +1,5 @@
 -- A list is put together with what stands at each place, item by item.
+-- for: scope
 use Rattle.std.proofs.Common.{◌≡◌, ℕ, ◌<◌, ◌≤◌, List, length, slice_index_or}
 
 -- the items below a place are put together by f, the others are as before

@@ -1,4 +1,5 @@
 -- What is reported of rows is that of two parts of them, put together.
+-- for: scope
 use Rattle.std.proofs.Common.{◌≡◌, cond, ℤ, ◌+◌, Option, Some, None, List, [], ◌∷◌, ◌++◌, length, refl, ap, sym, ◌∙◌, arith, length-append, unsigned_abs, ◌-ℤ◌}
 use Rattle.std.specs.Int.{int_min, int_max}
 use Rattle.std.specs.Ordering.{int_eq}

@@ -1,4 +1,5 @@
 -- One axis or one block more is named.
+-- for: scope
 use Rattle.std.proofs.Common.{◌≡◌, ℕ, suc, ◌+◌, List, [], ◌∷◌, ◌++◌, length, ap, ◌∙◌, arith}
 use Rattle.axis_state.specs.declared.definition.AxisDef.{AxisDef}
 use Rattle.motion_history.specs.Entries.{Entry}

@@ -1,4 +1,5 @@
 -- What the reports say.
+-- for: reports_say_what_is_asked
 use Rattle.std.proofs.Common.{◌≡◌, ◌⊎◌, inl, inr, ⊎_elim, ◌≤ℤ◌, ◌<◌, ◌+◌, ℕ, ℤ, pos, zero, suc, Option, Some, None, List, [], ◌∷◌, length, slice_index_or, refl, ap, sym, ◌∙◌, subst, arith}
 use Rattle.std.specs.Prelude.{Contains, slice_get}
 use Rattle.std.specs.Int.{int_min, int_max}

@@ -1,5 +1,5 @@
 -- The commands of an axis, part by part.
--- for: check_trace_segment
+-- for: kernel_of
 use Rattle.std.specs.Prelude.{◌≡◌, ◌↔◌, refl, ℕ, zero, suc, Bool, IsTrue, IfSome, Option, Some, None, List, [], ◌∷◌, slice_get}
 use Rattle.std.specs.List.{AllByRecursion}
 use Rattle.std.proofs.Common.{subst, sym}

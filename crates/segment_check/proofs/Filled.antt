@@ -1,4 +1,5 @@
 -- Machines whose parts are set one after another.
+-- for: kernel_of
 use Rattle.std.specs.Prelude.{◌≡◌, refl, ℕ, ◌+◌, ◌<◌, Some, List, [], ◌∷◌, ◌++◌, length, slice_get, slice_index_or, slice_set, map, take}
 use Rattle.std.specs.Option.{option_map}
 use Rattle.std.specs.Prelude.{◌↔◌, Bool, IfOk, IsErr, IsTrue, OnOk, Result, Ok, Err}

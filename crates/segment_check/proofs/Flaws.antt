@@ -1,4 +1,5 @@
 -- The first flaw of a header is one, and a header without one is that of a machine that may begin.
+-- for: kernel_of
 use Rattle.std.specs.Prelude.{◌≡◌, IfOk, Result, Ok, Err, Option, Some, None, List, [], ◌∷◌, ◌++◌}
 use Rattle.std.proofs.Common.{◌∙◌, inl, inr, subst, sym}
 use Rattle.motion_history.specs.Setup.{Setup}

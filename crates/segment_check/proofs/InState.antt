@@ -1,5 +1,5 @@
 -- A machine whose axes and groups are as their states say.
--- for: check_trace_segment
+-- for: kernel_of
 use Rattle.std.specs.Prelude.{◌≡◌, ℕ, ◌<◌, length}
 use Rattle.std.proofs.Common.{arith}
 use Rattle.group_core.specs.Targets.{IsToward}

@@ -5,5 +5,6 @@ pub mod Filled
 pub mod RowLaws
 pub mod Heads
 pub mod OwnLaws
+pub mod Configured
 pub mod HeaderRows
 pub mod OpeningHeld

@@ -1,10 +1,10 @@
 -- A header can hold the machine at opening.
--- for: segments_by_headers_tell_pasts
-use Rattle.std.specs.Prelude.{◌≡◌, refl, ℕ, zero, suc, ◌+◌, ◌<◌, ◌≤◌, Bool, true, false, pos, ℤ, List, [], ◌∷◌, length, map, replicate, slice_index_or}
+-- for: texts_by_headers_tell_pasts
+use Rattle.std.specs.Prelude.{◌≡◌, refl, ℕ, zero, suc, ◌+◌, ◌<◌, Bool, true, false, List, [], ◌∷◌, length, map, replicate, slice_index_or}
 use Rattle.std.specs.List.{AllByRecursion, AllZip}
-use Rattle.std.proofs.Common.{FitsSigned, arith, w64}
+use Rattle.std.proofs.Common.{arith}
 use Rattle.std.proofs.lemmas.Int.{ints}
-use Rattle.axis_core.specs.AxisKept.{IsAxisKept, IsBased, IsSet}
+use Rattle.axis_core.specs.AxisKept.{IsAxisKept, IsSet}
 use Rattle.axis_core.specs.Cycles.{axis_at_opening}
 use Rattle.axis_core.specs.declared.axis.Axis.{Axis}
 use Rattle.motion_history.specs.Setup.{Setup}
@@ -57,22 +57,26 @@ opening_held s kept =
           (λ d is. let wide = wide_now (axis_at_opening d) is in record {
             limits = refl;
             inc = refl;
-            error = omega arith;
-            previous = wide;
-            setpoint = wide;
-            offset = omega (arith, ints);
-            active = tt;
-            reset = tt;
-            hold = tt;
-            controlword = by_if (λ w. w < 65536) d.ready _ _ (omega arith) (omega arith);
+            bits = record {
+              error = omega arith;
+              previous = wide;
+              setpoint = wide;
+              offset = omega (arith, ints);
+              active = tt;
+              reset = tt;
+              hold = tt;
+              controlword = by_if (λ w. w < 65536) d.ready _ _ (omega arith) (omega arith);
+            };
           }) s.axes (λ n l. (kept.axes n (omega arith)).core.axis);
       groups = zip_each IsGroupOf group_at_opening (λ d. record {
         axes = refl;
-        error = omega arith;
-        active = tt;
-        reset = tt;
-        hold = tt;
-        path = tt;
+        bits = record {
+          error = omega arith;
+          active = tt;
+          reset = tt;
+          hold = tt;
+          path = tt;
+        };
       }) s.groups;
       queues = queues_held (length s.axes + length s.groups);
       instances = zip_each IsInstanceOf (instance_at_opening_of s.axes)

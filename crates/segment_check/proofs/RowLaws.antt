@@ -1,4 +1,5 @@
 -- Trace segments of a row, one after another.
+-- for: texts_by_headers_tell_pasts, rows_of_trace_segments_tell_pasts
 use Rattle.std.specs.Prelude.{List, [], ◌∷◌, ◌++◌}
 use Rattle.std.proofs.Common.{subst}
 use Rattle.motion_history.specs.Entries.{Entry, cycles_of}

@@ -1,11 +1,15 @@
 // Laws of trace segments that follow each other: each is the contract of a function that does
 // nothing.
 
-ghost use Rattle.segment_check.specs.Headers.{HeadersTellPasts};
+ghost use Rattle.segment_check.specs.Headers.{TextsTellPasts};
 ghost use Rattle.segment_check.specs.Own.{FirstMayBegin, NextMayBegin};
 ghost use Rattle.segment_check.specs.Rows.{RowsTellPasts};
 
-use motion_laws::{machines_can_stand, pasts_keep_their_laws, segments_keep_their_laws};
+use axis_core::axes_keep_their_definitions;
+use motion_kernel::machines_stay_kept;
+use motion_laws::{
+    machines_can_stand, pasts_keep_their_laws, replies_tell_one_result, segments_keep_their_laws,
+};
 use segment_text::headers_are_read_back;
 
 /// Trace segments of which the first begins at opening, and each later one with the machine to
@@ -28,15 +32,18 @@ pub fn segments_of_kernels_may_begin()
     machines_can_stand();
 }
 
-/// Trace segments that were found legal one by one, of which the first has the header of the
-/// machine at opening, and each later one the header that was reported for the one before, say one
-/// past of the machine together, and all laws hold of it: where each machine that they lead to has
-/// numbers of the bits of their types, as every machine of a kernel has. Nothing runs.
-pub fn segments_by_headers_tell_pasts()
-    ensures { HeadersTellPasts }
+/// Texts that were found to be legal trace segments of one configuration, one by one, of which the
+/// first has no segment before it, and each later one begins with the header that was reported for
+/// the one before, say one past of the machine together, from opening on, and all laws hold of it.
+/// Nothing runs.
+pub fn texts_by_headers_tell_pasts()
+    ensures { TextsTellPasts }
 {
     headers_are_read_back();
     machines_can_stand();
     segments_keep_their_laws();
     pasts_keep_their_laws();
+    machines_stay_kept();
+    axes_keep_their_definitions();
+    replies_tell_one_result();
 }

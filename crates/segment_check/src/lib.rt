@@ -17,8 +17,7 @@ mod verifying;
 
 pub use flaw::Flaw;
 pub use laws::{
-    rows_of_trace_segments_tell_pasts, segments_by_headers_tell_pasts,
-    segments_of_kernels_may_begin,
+    rows_of_trace_segments_tell_pasts, segments_of_kernels_may_begin, texts_by_headers_tell_pasts,
 };
 pub use segment_text::{TraceSegment, read_trace_segment};
 pub use starting::kernel_of;

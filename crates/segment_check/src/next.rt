@@ -5,7 +5,7 @@ ghost use Rattle.motion_kernel.specs.Segments.{IsEarly};
 ghost use Rattle.segment_check.specs.Next.{IsHeaderBehind};
 
 use motion_kernel::SegmentedKernel;
-use segment_text::header_text;
+use segment_text::{header_text, numbers_have_bits};
 use std::alloc::Global;
 use trace_check::OutOfMemory;
 
@@ -15,8 +15,10 @@ pub fn header_behind(alloc: Global, mut kernel: SegmentedKernel) -> Result<Vec<u
     requires { IsEarly kernel.before }
     ensures { IfOk result (λ header. IsHeaderBehind kernel header.items) }
 {
+    let _ = kernel.history();
     let mut segment = kernel.spare(alloc)?;
     kernel.swap(&mut segment);
+    numbers_have_bits(kernel.config(), kernel.start());
     let next = kernel.before();
     if !next.is_early() {
         return Ok(Vec::new(alloc));

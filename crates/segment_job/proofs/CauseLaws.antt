@@ -1,4 +1,5 @@
 -- Each status of the job comes of its cause.
+-- for: check_trace_segment_text
 use Rattle.std.specs.Prelude.{◌≡◌, refl, ℕ, true, Some, None, Result, Ok, Err, List, [], length}
 use Rattle.std.proofs.Common.{◌∙◌, ap, inl, inr, subst, sym}
 use Rattle.job_ends.proofs.Refusals.{refused-cause, refused-plan}

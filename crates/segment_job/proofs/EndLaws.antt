@@ -1,4 +1,5 @@
 -- How the job ends, from what its parts did.
+-- for: check_trace_segment_text
 use Rattle.std.specs.Prelude.{◌≡◌, ◌⊎◌, refl, ℕ, true, false, Result, Ok, Err, List}
 use Rattle.std.proofs.Common.{◌∙◌, ap, inl, inr, subst, sym}
 use Rattle.job_ends.specs.Causes.{is_fault}

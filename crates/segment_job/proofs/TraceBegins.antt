@@ -1,5 +1,6 @@
 -- No text that is a trace begins as trace segments do: its first record would have the kind of a
 -- trace segment, and that is no header.
+-- for: trace_segments_and_traces_begin_apart
 use Rattle.std.specs.Prelude.{◌≡◌, refl, ℕ, zero, suc, ◌+◌, Bool, true, false, Option, Some, None, Result, Ok, Err, List, [], ◌∷◌, ◌++◌, codes, if◌then◌else◌, length}
 use Rattle.std.specs.Result.{is_ok}
 use Rattle.std.proofs.Common.{◌∙◌, ap, inl, inr, subst, sym}

@@ -1,4 +1,5 @@
 -- Each text that is a trace segment begins as trace segments do.
+-- for: trace_segments_and_traces_begin_apart
 use Rattle.std.specs.Prelude.{◌≡◌, refl, ℕ, ◌+◌, ◌&&◌, if◌then◌else◌, Bool, true, false, Option, Some, None, option_and_then, Result, Ok, Err, List, [], ◌∷◌, ◌++◌, codes, drop, nat_le, take}
 use Rattle.std.specs.List.{count_by, join_with_byte, slice_split}
 use Rattle.std.specs.Option.{ok_or}

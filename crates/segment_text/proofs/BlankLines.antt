@@ -1,4 +1,5 @@
 -- Where a blank line ends.
+-- for: read_trace_segment
 use Rattle.std.specs.Prelude.{◌≡◌, refl, ℕ, ◌≤◌, None, List, [], ◌∷◌, length}
 use Rattle.std.proofs.Common.{arith}
 use Rattle.segment_text.specs.reading.Reading.{blank_line_from}

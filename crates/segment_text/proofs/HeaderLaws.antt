@@ -1,4 +1,5 @@
 -- Records one after the other, as the lines of a header.
+-- for: headers_are_read_back
 use Rattle.std.specs.Prelude.{◌≡◌, refl, ℕ, zero, suc, ◌+◌, ◌≤◌, Some, None, Result, Ok, Err, OnOk, List, [], ◌∷◌, ◌++◌, length, map, take, slice_get}
 use Rattle.std.proofs.Common.{◌∙◌, add-one, ap, append_assoc, arith, sym}
 use Rattle.std.proofs.lemmas.Grind.{flat_map-append}

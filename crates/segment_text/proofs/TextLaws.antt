@@ -1,4 +1,5 @@
 -- Fields one after the other, and lines.
+-- for: header_text
 use Rattle.std.specs.Prelude.{◌≡◌, refl, ℕ, List, [], ◌∷◌, ◌++◌, Result, Ok, Err, OnOk, map}
 use Rattle.std.proofs.Common.{append_assoc, sym, ◌∙◌, ap}
 use Rattle.std.proofs.lemmas.Grind.{flat_map-append}

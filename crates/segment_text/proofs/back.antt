@@ -11,3 +11,7 @@ pub mod Shorts
 pub mod Leads
 pub mod Heads
 pub mod Whole
+pub mod Lists
+pub mod Text
+pub mod Parts
+pub mod Spelled

@@ -63,10 +63,8 @@ pub record AreWaiting (queue : List Wanted) : Type 0 where
   pub few : length queue ≤ 8
   pub each : AllByRecursion IsWanted queue
 
--- the axis of this definition
-pub record IsAxisOf (d : AxisDef) (a : Axis) : Type 0 where
-  pub limits : a.limits ≡ d.limits
-  pub inc : a.inc ≡ d.inc
+-- the numbers of an axis have the bits of their types
+pub record HasAxisBits (a : Axis) : Type 0 where
   pub error : IsWord a.error
   pub previous : IsWide a.previous
   pub setpoint : IsWide a.setpoint
@@ -75,6 +73,12 @@ pub record IsAxisOf (d : AxisDef) (a : Axis) : Type 0 where
   pub reset : IfSome a.reset (λ (r : PendingReset). IfSome r.owner IsWord)
   pub hold : IfSome a.hold IsWord
   pub controlword : a.controlword < 65536
+
+-- the axis of this definition
+pub record IsAxisOf (d : AxisDef) (a : Axis) : Type 0 where
+  pub limits : a.limits ≡ d.limits
+  pub inc : a.inc ≡ d.inc
+  pub bits : HasAxisBits a
 
 -- limits of 64 bits
 pub record AreWideLimits (l : Limits) : Type 0 where
@@ -100,14 +104,18 @@ pub record IsOnPath (p : OnPath) : Type 0 where
   pub previous : IsWide p.motion.previous
   pub place : IsWide p.motion.place
 
--- the group of this definition
-pub record IsGroupOf (d : GroupDef) (g : PlacedGroup) : Type 0 where
-  pub axes : g.group.axes ≡ d.count
+-- the numbers of a group have the bits of their types
+pub record HasGroupBits (g : PlacedGroup) : Type 0 where
   pub error : IsWord g.group.error
   pub active : IfSome g.group.active IsWanted
   pub reset : IfSome g.group.reset (λ (r : PendingReset). IfSome r.owner IsWord)
   pub hold : IfSome g.group.hold IsWord
   pub path : IfSome g.path IsOnPath
+
+-- the group of this definition
+pub record IsGroupOf (d : GroupDef) (g : PlacedGroup) : Type 0 where
+  pub axes : g.group.axes ≡ d.count
+  pub bits : HasGroupBits g
 
 -- the number of an error has 16 bits
 abbrev pub IsProgress : Progress → Type 0
@@ -118,6 +126,13 @@ IsProgress _ = Unit {0}
 pub record IsInstanceOf (d : BlockDef) (i : InstanceState) : Type 0 where
   pub kind : i.kind ≡ d.kind
   pub progress : IsProgress i.progress
+
+-- the numbers of a machine have the bits of their types, and at most eight commands wait in a list
+pub record HasMachineBits (m : Machine) : Type 0 where
+  pub axes : AllByRecursion HasAxisBits m.axes
+  pub groups : AllByRecursion HasGroupBits m.groups
+  pub queues : AllByRecursion AreWaiting m.queues
+  pub instances : AllByRecursion (λ (i : InstanceState). IsProgress i.progress) m.instances
 
 -- a machine of a configuration, with a list of commands for each axis and group
 pub record IsMachineOf (s : Setup) (m : Machine) : Type 0 where

@@ -1,24 +1,26 @@
 -- What is read of the records of a header that were written, and what is read is spelled so. This
 -- project's profile.
-use Rattle.std.specs.Prelude.{◌≡◌, ℕ, Ok, Some, List, drop}
+use Rattle.std.specs.Prelude.{◌≡◌, ℕ, Ok, Some, List, ◌∷◌, ◌++◌, drop}
 use Rattle.axis_core.specs.declared.axis.Axis.{Axis}
 use Rattle.axis_state.specs.declared.definition.AxisDef.{AxisDef}
 use Rattle.command_pool.specs.declared.wanted.Wanted.{Wanted}
 use Rattle.fb_outputs.specs.InstanceState.{InstanceState}
 use Rattle.motion_history.specs.declared.config.BlockDef.{BlockDef}
 use Rattle.motion_history.specs.declared.config.GroupDef.{GroupDef}
-use Rattle.motion_history.specs.Setup.{Setup}
+use Rattle.motion_history.specs.Setup.{IsSetup, Setup}
 use Rattle.motion_kernel.specs.Machine.{Machine, PlacedGroup}
 use Rattle.motion_kernel.specs.declared.segment.Before.{Before}
 use Rattle.segment_text.specs.Held.{IsAxisOf, IsGroupOf, IsHeld, IsInstanceOf, IsWanted}
-use Rattle.segment_text.specs.TraceSegment.{header_text}
+use Rattle.segment_text.specs.TraceSegment.{header_text, segment_text}
 use Rattle.segment_text.specs.Records.{axis_fields, group_fields, instance_fields}
 use Rattle.segment_text.specs.WantedFields.{wanted_fields}
 use Rattle.segment_text.specs.reading.Axes.{axis_of}
 use Rattle.segment_text.specs.reading.Commands.{wanted_of}
 use Rattle.segment_text.specs.reading.Groups.{group_of}
 use Rattle.segment_text.specs.reading.Instances.{instance_of}
-use Rattle.segment_text.specs.reading.Reading.{header_of}
+use Rattle.segment_text.specs.declared.trace_segment.TraceSegment.{TraceSegment}
+use Rattle.segment_text.specs.reading.Reading.{halves_of, header_of, trace_segment_of}
+use Rattle.trace_text.specs.reading.Reading.{trace_of}
 
 -- the fields after the number of an axis, a group or a block, and those of a command, are read as
 -- what was written
@@ -54,6 +56,20 @@ pub record AreRecordsSpelled : Type 0 where
 abbrev pub HeadersAreReadBack : Type 0
 HeadersAreReadBack = (s : Setup) (b : Before) (m : Machine) →
     IsHeld s b m → header_of s (header_text b m) ≡ Ok (b, m)
+
+-- a text spells a trace segment: the header of what it was read as, a blank line, and the text that
+-- its trace was read from
+pub record IsTextOf (text : List ℕ) (p : TraceSegment) : Type 0 where
+  pub behind : List ℕ
+  pub is : text ≡ segment_text p.before p.machine behind
+  pub halves : halves_of text ≡ Some (header_text p.before p.machine, behind)
+  pub trace : trace_of behind ≡ Ok p.trace
+  pub held : IsHeld p.trace.config p.before p.machine
+
+-- each text that is read as a trace segment of a configuration spells it, and a header can hold it
+abbrev pub TextsAreSpelled : Type 0
+TextsAreSpelled = (text : List ℕ) (p : TraceSegment) → IsSetup p.trace.config →
+    trace_segment_of text ≡ Ok p → IsTextOf text p
 
 -- so machines of a configuration with the same header are the same, and so is what was before
 abbrev pub HeadersTellMachines : Type 0

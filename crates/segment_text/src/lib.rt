@@ -4,12 +4,14 @@
 //! [`read_trace_segment`], in the folders `writing` and `reading`.
 #![tactic(auto)]
 
+mod bits;
 mod laws;
 mod machine;
 mod reading;
 mod trace_segment;
 mod writing;
 
+pub use bits::numbers_have_bits;
 pub use laws::{headers_are_read_back, records_are_read_back};
 pub use machine::MachineText;
 pub use reading::read::read_trace_segment;

@@ -1,4 +1,5 @@
 -- Ends of a ring that are the same field by field.
+-- for: push, take
 use Rattle.std.proofs.Common.{◌≡◌, ℕ, Bool, List}
 use Rattle.std.specs.declared.alloc.Global.{Global}
 use Rattle.rtrb.specs.Ends.{SameRing}

@@ -1,4 +1,5 @@
 -- Items with and without their numbers.
+-- for: push
 use Rattle.std.proofs.Common.{arith, ◌≡◌, ℕ, suc, ◌+◌, List, [], ◌∷◌, ◌++◌, length, length-append, Option, Some, None, refl, sym, ap, ◌∙◌}
 use Rattle.std.specs.List.{last_or}
 use mathlib.Core.List.{IsPrefix}

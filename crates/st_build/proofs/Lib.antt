@@ -1,3 +1,5 @@
 pub mod Lists
 pub mod Numbers
 pub mod Tasks
+pub mod Ways
+pub mod Spelled

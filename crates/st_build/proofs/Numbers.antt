@@ -1,4 +1,5 @@
 -- Numbers from one on, after each other.
+-- for: program_of
 use Rattle.std.proofs.Common.{◌≡◌, ℕ, zero, suc, ◌+◌, length, List, [], ◌∷◌, ◌++◌, refl, ap, sym, ◌∙◌, arith}
 use Rattle.st_parts.specs.Parts.{numbers_from}
 

@@ -1,4 +1,5 @@
 -- The parts of a task, one after another.
+-- for: program_of
 use Rattle.std.proofs.Common.{◌≡◌, ℕ, [], ◌∷◌, ◌++◌, ap, sym, ◌∙◌, append_assoc}
 use Rattle.st_parts.specs.Parts.{Parts}
 use Rattle.st_parts.specs.declared.part.Part.TheVariants as part

@@ -1,17 +1,55 @@
 // Going over parts.
 
-ghost use Rattle.std.specs.Prelude.{◌≡◌, ◌++◌, ◌∷◌, [], IfSome, OnOk, drop};
+ghost use Rattle.std.specs.Prelude.{◌≡◌, ◌≤◌, ◌+◌, ◌++◌, ◌∷◌, [], OnOk, drop, length};
+ghost use Rattle.st_parts.specs.Places as spec;
 
 use out_of_memory::OutOfMemory;
 use st_parts::Part;
 
-/// The part at this place, which is gone over where there is one.
-pub fn next(parts: &[Part], at: &mut usize) -> Option<Part>
-    ensures { IfSome result (λ p. drop at.old parts.now ≡ p ∷ drop at.new parts.now) }
+/// The part at this place, which is gone over.
+pub fn next(parts: &[Part], at: &mut usize) -> Part
+    requires { 1 ≤ length (drop at.old parts.now) }
+    ensures next { drop at.old parts.now ≡ result ∷ drop at.new parts.now }
+    ensures onward { at.new ≡ at.old + 1 }
 {
-    let found = *parts.get(*at)?;
+    let found = parts[*at];
     *at += 1;
-    Some(found)
+    found
+}
+
+/// Goes over a part.
+pub fn go_over(parts: &[Part], at: &mut usize)
+    requires { 1 ≤ length (drop at.old parts.now) }
+    ensures rest { drop at.new parts.now ≡ drop 1 (drop at.old parts.now) }
+    ensures onward { at.new ≡ at.old + 1 }
+{
+    *at += 1;
+}
+
+// Whether a part is one of an expression.
+fn is_of_expression(part: Part) -> bool
+    ensures { result ≡ spec.is_of_expression part }
+{
+    matches!(
+        part,
+        Part::Number(_)
+            | Part::Truth(_)
+            | Part::Variable(_)
+            | Part::Flag { .. }
+            | Part::Negative
+            | Part::Not
+            | Part::Join(_)
+    )
+}
+
+/// Whether an expression stands at this place.
+pub fn begins(parts: &[Part], at: usize) -> bool
+    ensures { result ≡ spec.begins (drop at parts.now) }
+{
+    match parts.get(at) {
+        Some(part) => is_of_expression(*part),
+        None => false,
+    }
 }
 
 /// Adds an item to a list.
@@ -21,45 +59,5 @@ pub fn push<T: Drop>(list: &mut Vec<T>, item: T) -> Result<(), OutOfMemory>
     match list.push(item) {
         Ok(()) => Ok(()),
         Err(_) => Err(OutOfMemory),
-    }
-}
-
-/// Goes over an `Else`.
-pub fn go_over_else(parts: &[Part], at: &mut usize) -> Result<(), OutOfMemory>
-    ensures { OnOk result (drop at.old parts.now ≡ Part.Else ∷ drop at.new parts.now) }
-{
-    match next(parts, at) {
-        Some(Part::Else) => Ok(()),
-        _ => Err(OutOfMemory),
-    }
-}
-
-/// Goes over an `EndIf`.
-pub fn go_over_end_if(parts: &[Part], at: &mut usize) -> Result<(), OutOfMemory>
-    ensures { OnOk result (drop at.old parts.now ≡ Part.EndIf ∷ drop at.new parts.now) }
-{
-    match next(parts, at) {
-        Some(Part::EndIf) => Ok(()),
-        _ => Err(OutOfMemory),
-    }
-}
-
-/// Goes over an `EndCase`.
-pub fn go_over_end_case(parts: &[Part], at: &mut usize) -> Result<(), OutOfMemory>
-    ensures { OnOk result (drop at.old parts.now ≡ Part.EndCase ∷ drop at.new parts.now) }
-{
-    match next(parts, at) {
-        Some(Part::EndCase) => Ok(()),
-        _ => Err(OutOfMemory),
-    }
-}
-
-/// Goes over a `CallEnd`.
-pub fn go_over_call_end(parts: &[Part], at: &mut usize) -> Result<(), OutOfMemory>
-    ensures { OnOk result (drop at.old parts.now ≡ Part.CallEnd ∷ drop at.new parts.now) }
-{
-    match next(parts, at) {
-        Some(Part::CallEnd) => Ok(()),
-        _ => Err(OutOfMemory),
     }
 }

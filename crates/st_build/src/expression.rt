@@ -1,11 +1,14 @@
 // Expressions from their parts.
 
-ghost use Rattle.std.specs.Prelude.{◌≡◌, ◌++◌, ◌∷◌, [], IfOk, OnOk, true, if◌then◌else◌, drop, map};
+ghost use Rattle.std.specs.Prelude.{◌≡◌, ◌≤◌, ◌<◌, ◌-◌, ◌++◌, ◌∷◌, [], Bool, true, false, List, IfOk, OnOk, suc, drop, length, map};
 ghost use Rattle.st_build.specs.Chains as chains;
 ghost use Rattle.st_build.specs.Chains.{IsJoined};
+ghost use Rattle.st_build.specs.Ahead.{IsAtExpression};
 ghost use Rattle.st_parts.specs.Parts as spec;
+ghost use Rattle.st_parts.specs.Places as places;
+ghost use Rattle.st_parts.specs.Places.{Around, Inside, Passes};
 
-use crate::cursor::push;
+use crate::cursor::{begins, push};
 use out_of_memory::OutOfMemory;
 use st_parts::Part;
 use st_tree::{Expr, Operator, Term};
@@ -111,65 +114,67 @@ fn term(operator: Operator, operand: Expr) -> Term
 }
 
 // Adds an operand to those that wait.
-fn put(operands: &mut Vec<Expr>, operand: Expr) -> Result<bool, OutOfMemory>
-    ensures taken { IfOk result (λ taken. taken ≡ true) }
+fn put(operands: &mut Vec<Expr>, operand: Expr) -> Result<(), OutOfMemory>
+    ensures count { OnOk result (length operands.new.items ≡ suc (length operands.old.items)) }
     ensures spelled { OnOk result (spec.operands_parts operands.new.items ≡
         spec.operands_parts operands.old.items ++ spec.expr_parts operand) }
 {
-    push(operands, operand)?;
-    Ok(true)
+    push(operands, operand)
 }
 
 // Makes the last operand negative.
-fn negate_last(alloc: Global, operands: &mut Vec<Expr>) -> Result<bool, OutOfMemory>
-    ensures taken { IfOk result (λ taken. taken ≡ true) }
+fn negate_last(alloc: Global, operands: &mut Vec<Expr>) -> Result<(), OutOfMemory>
+    requires { 1 ≤ length operands.old.items }
+    ensures count { OnOk result (length operands.new.items ≡ length operands.old.items) }
     ensures spelled { OnOk result (spec.operands_parts operands.new.items ≡
         spec.operands_parts operands.old.items ++ Part.Negative ∷ []) }
 {
     let Some(operand) = operands.pop() else {
-        return Err(OutOfMemory);
+        unreachable!()
     };
     let made = negative(alloc, operand)?;
     put(operands, made)
 }
 
 // Inverts the last operand.
-fn invert_last(alloc: Global, operands: &mut Vec<Expr>) -> Result<bool, OutOfMemory>
-    ensures taken { IfOk result (λ taken. taken ≡ true) }
+fn invert_last(alloc: Global, operands: &mut Vec<Expr>) -> Result<(), OutOfMemory>
+    requires { 1 ≤ length operands.old.items }
+    ensures count { OnOk result (length operands.new.items ≡ length operands.old.items) }
     ensures spelled { OnOk result (spec.operands_parts operands.new.items ≡
         spec.operands_parts operands.old.items ++ Part.Not ∷ []) }
 {
     let Some(operand) = operands.pop() else {
-        return Err(OutOfMemory);
+        unreachable!()
     };
     let made = inverted(alloc, operand)?;
     put(operands, made)
 }
 
 // Joins the last two operands.
-fn join_last(
-    alloc: Global,
-    operands: &mut Vec<Expr>,
-    operator: Operator,
-) -> Result<bool, OutOfMemory>
-    ensures taken { IfOk result (λ taken. taken ≡ true) }
+fn join_last(alloc: Global, operands: &mut Vec<Expr>, operator: Operator) -> Result<(), OutOfMemory>
+    requires { 2 ≤ length operands.old.items }
+    ensures count { OnOk result (length operands.new.items ≡ length operands.old.items - 1) }
     ensures spelled { OnOk result (spec.operands_parts operands.new.items ≡
         spec.operands_parts operands.old.items ++ Part.Join operator ∷ []) }
 {
     let Some(second) = operands.pop() else {
-        return Err(OutOfMemory);
+        unreachable!()
     };
     let Some(first) = operands.pop() else {
-        return Err(OutOfMemory);
+        unreachable!()
     };
     let made = joined(alloc, first, term(operator, second))?;
     put(operands, made)
 }
 
-// Takes a part of an expression to the operands that wait; other parts are left.
-fn put_part(alloc: Global, operands: &mut Vec<Expr>, part: Part) -> Result<bool, OutOfMemory>
-    ensures { IfOk result (λ taken. spec.operands_parts operands.new.items ≡
-        spec.operands_parts operands.old.items ++ (if taken then part ∷ [] else [])) }
+// Takes a part of an expression to the operands that wait.
+fn put_part(alloc: Global, operands: &mut Vec<Expr>, part: Part) -> Result<(), OutOfMemory>
+    requires expression { places.is_of_expression part ≡ true }
+    requires enough { places.operands_for part ≤ length operands.old.items }
+    ensures count { OnOk result (length operands.new.items ≡
+        places.operands_after part (length operands.old.items)) }
+    ensures spelled { OnOk result (spec.operands_parts operands.new.items ≡
+        spec.operands_parts operands.old.items ++ part ∷ []) }
 {
     match part {
         Part::Number(number) => put(operands, Expr::Number(number)),
@@ -179,20 +184,25 @@ fn put_part(alloc: Global, operands: &mut Vec<Expr>, part: Part) -> Result<bool,
         Part::Negative => negate_last(alloc, operands),
         Part::Not => invert_last(alloc, operands),
         Part::Join(operator) => join_last(alloc, operands, operator),
-        _ => Ok(false),
+        _ => unreachable!(),
     }
 }
 
 // The operands whose parts stand from this place on, as far as they go.
 fn operands_at(alloc: Global, parts: &[Part], at: &mut usize) -> Result<Vec<Expr>, OutOfMemory>
-    ensures { IfOk result (λ v.
+    requires { IsAtExpression (drop at.old parts.now) }
+    ensures spelled { IfOk result (λ v.
         drop at.old parts.now ≡ spec.operands_parts v.items ++ drop at.new parts.now) }
+    ensures passes { (keys : Bool) → (around : List Around) → IfOk result (λ v.
+        Passes (Inside 0 keys around) (Inside (length v.items) keys around)
+        (drop at.old parts.now) (drop at.new parts.now)) }
+    ensures some { IfOk result (λ v. 1 ≤ length v.items) }
+    ensures ended { OnOk result (places.begins (drop at.new parts.now) ≡ false) }
+    ensures onward { OnOk result (at.old < at.new) }
 {
     let mut operands = Vec::new(alloc);
-    while *at < parts.len() {
-        if !put_part(alloc, &mut operands, parts[*at])? {
-            return Ok(operands);
-        }
+    while begins(parts, *at) {
+        put_part(alloc, &mut operands, parts[*at])?;
         *at += 1;
     }
     Ok(operands)
@@ -200,15 +210,18 @@ fn operands_at(alloc: Global, parts: &[Part], at: &mut usize) -> Result<Vec<Expr
 
 /// The expression whose parts stand from this place on. It is gone over.
 pub fn expr_at(alloc: Global, parts: &[Part], at: &mut usize) -> Result<Expr, OutOfMemory>
-    ensures { IfOk result (λ e.
+    requires { IsAtExpression (drop at.old parts.now) }
+    ensures spelled { IfOk result (λ e.
         drop at.old parts.now ≡ spec.expr_parts e ++ drop at.new parts.now) }
+    ensures passes { (keys : Bool) → (around : List Around) → OnOk result
+        (Passes (Inside 0 keys around) (Inside 1 keys around)
+        (drop at.old parts.now) (drop at.new parts.now)) }
+    ensures ended { OnOk result (places.begins (drop at.new parts.now) ≡ false) }
+    ensures onward { OnOk result (at.old < at.new) }
 {
     let mut operands = operands_at(alloc, parts, at)?;
     let Some(found) = operands.pop() else {
-        return Err(OutOfMemory);
+        unreachable!()
     };
-    if !operands.is_empty() {
-        return Err(OutOfMemory);
-    }
     Ok(found)
 }

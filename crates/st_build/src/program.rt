@@ -1,34 +1,37 @@
 // Programs from their names and parts.
 
-ghost use Rattle.std.specs.Prelude.{◌≡◌, ◌++◌, ◌∷◌, ◌+◌, None, IfOk, IfSome, OnOk, drop, length};
+ghost use Rattle.std.specs.Prelude.{◌≡◌, ◌≤◌, ◌<◌, ◌++◌, ◌∷◌, ◌+◌, None, false, IfOk, IfSome, OnOk, drop, length};
 ghost use Rattle.st_parts.specs.Parts as spec;
 ghost use Rattle.st_parts.specs.Parts.{Spells};
+ghost use Rattle.st_parts.specs.Places as places;
+ghost use Rattle.st_parts.specs.Places.{AreOfTrees, Declaring, Leads};
+ghost use Rattle.st_build.specs.Ahead.{AreDeclared};
 ghost use Rattle.st_parts.specs.declared.part.Part.{Part};
 
-use crate::cursor::{next, push};
+use crate::cursor::{go_over, next, push};
 use crate::statement::body_at;
 use out_of_memory::OutOfMemory;
 use st_parts::Part;
 use st_tree::{Name, StProgram, Start, Task, Variable};
 use std::alloc::Global;
 
-/// How deep statements lie at most; `IF` and `CASE` are nested at most 32 deep.
-const MOST_DEPTH: u32 = 64;
-
-// The name at this place, which is gone over where there is one.
-fn next_name(names: &[Name], at: &mut usize) -> Option<Name>
-    ensures { IfSome result (λ n. drop at.old names.now ≡ n ∷ drop at.new names.now) }
+// The name at this place, which is gone over.
+fn next_name(names: &[Name], at: &mut usize) -> Name
+    requires { 1 ≤ length (drop at.old names.now) }
+    ensures { drop at.old names.now ≡ result ∷ drop at.new names.now }
 {
-    let found = *names.get(*at)?;
+    let found = names[*at];
     *at += 1;
-    Some(found)
+    found
 }
 
 // What the variable at this place begins with, which is gone over where there is one.
 fn next_start(parts: &[Part], at: &mut usize) -> Option<Start>
     ensures start { IfSome result
         (λ s. drop at.old parts.now ≡ Part.Declared s ∷ drop at.new parts.now) }
+    ensures onward { IfSome result (λ s. at.old < at.new) }
     ensures left { result ≡ None → at.new ≡ at.old }
+    ensures none { result ≡ None → places.declares (drop at.old parts.now) ≡ false }
 {
     let Some(Part::Declared(start)) = parts.get(*at).copied() else {
         return None;
@@ -45,19 +48,20 @@ fn variables_at(
     names: &[Name],
     at_name: &mut usize,
 ) -> Result<Vec<Variable>, OutOfMemory>
+    requires { AreDeclared (drop at_name.old names.now) (drop at.old parts.now) }
     ensures parts { IfOk result (λ v.
         drop at.old parts.now ≡ spec.declared_parts v.items ++ drop at.new parts.now) }
     ensures names { IfOk result (λ v.
         drop at_name.old names.now ≡ spec.variable_names v.items ++ drop at_name.new names.now) }
+    ensures ahead { OnOk result (AreDeclared (drop at_name.new names.now) (drop at.new parts.now)) }
+    ensures ended { OnOk result (places.declares (drop at.new parts.now) ≡ false) }
+    ensures blocks { OnOk result
+        (places.blocks_in (drop at.old parts.now) ≡ places.blocks_in (drop at.new parts.now)) }
+    ensures onward { OnOk result (at.old ≤ at.new) }
 {
     let mut variables = Vec::new(alloc);
-    for _gone in 0..parts.len() {
-        let Some(start) = next_start(parts, at) else {
-            return Ok(variables);
-        };
-        let Some(name) = next_name(names, at_name) else {
-            return Err(OutOfMemory);
-        };
+    while let Some(start) = next_start(parts, at) {
+        let name = next_name(names, at_name);
         push(&mut variables, Variable { name, start })?;
     }
     Ok(variables)
@@ -66,64 +70,27 @@ fn variables_at(
 // This many numbers from this on.
 #[tactic(auto, using(crate::proofs::Numbers::length_numbers))]
 fn numbers_from(alloc: Global, first: usize, count: u16) -> Result<Vec<u16>, OutOfMemory>
+    requires { first + count ≤ 65535 }
     ensures numbered { IfOk result (λ v. v.items ≡ spec.numbers_from first (length v.items)) }
     ensures counted { IfOk result (λ v. length v.items ≡ count) }
 {
     let mut numbers = Vec::new(alloc);
     for i in 0..count {
-        let Some(number) = number_behind(first, i) else {
-            return Err(OutOfMemory);
-        };
-        push(&mut numbers, number)?;
+        push(&mut numbers, (first + i as usize) as u16)?;
     }
     Ok(numbers)
 }
 
-// A number this many after this.
-fn number_behind(first: usize, behind: u16) -> Option<u16>
-    ensures { IfSome result (λ n. n ≡ first + behind) }
-{
-    let number = first.checked_add(behind as usize)?;
-    if number > 65535 {
-        return None;
-    }
-    Some(number as u16)
-}
-
-// How many blocks there are after a task.
-fn blocks_behind(blocks: usize, task: &Task) -> Option<usize>
-    ensures { IfSome result (λ n. n ≡ blocks + length (spec.blocks_of task.now)) }
-{
-    blocks.checked_add(task.blocks.len())
-}
-
-// Goes over a `Task`.
-fn go_over_task(parts: &[Part], at: &mut usize) -> Result<(), OutOfMemory>
-    ensures { OnOk result (drop at.old parts.now ≡ Part.Task ∷ drop at.new parts.now) }
-{
-    match next(parts, at) {
-        Some(Part::Task) => Ok(()),
-        _ => Err(OutOfMemory),
-    }
-}
-
 // Goes over a `Body`, and answers its number of blocks.
-fn go_over_body(parts: &[Part], at: &mut usize) -> Result<u16, OutOfMemory>
-    ensures { IfOk result (λ n. drop at.old parts.now ≡ Part.Body n ∷ drop at.new parts.now) }
+fn go_over_body(parts: &[Part], at: &mut usize) -> u16
+    requires leads { Leads Declaring (drop at.old parts.now) }
+    requires ended { places.declares (drop at.old parts.now) ≡ false }
+    ensures body { drop at.old parts.now ≡ Part.Body result ∷ drop at.new parts.now }
+    ensures onward { at.new ≡ at.old + 1 }
 {
     match next(parts, at) {
-        Some(Part::Body(blocks)) => Ok(blocks),
-        _ => Err(OutOfMemory),
-    }
-}
-
-// Goes over a `TaskEnd`.
-fn go_over_task_end(parts: &[Part], at: &mut usize) -> Result<(), OutOfMemory>
-    ensures { OnOk result (drop at.old parts.now ≡ Part.TaskEnd ∷ drop at.new parts.now) }
-{
-    match next(parts, at) {
-        Some(Part::TaskEnd) => Ok(()),
-        _ => Err(OutOfMemory),
+        Part::Body(blocks) => blocks,
+        _ => unreachable!(),
     }
 }
 
@@ -136,22 +103,25 @@ fn task_at(
     at_name: &mut usize,
     first: usize,
 ) -> Result<Task, OutOfMemory>
+    requires ahead { AreOfTrees first (drop at_name.old names.now) (drop at.old parts.now) }
+    requires some { 1 ≤ length (drop at.old parts.now) }
     ensures parts { IfOk result (λ t.
         drop at.old parts.now ≡ spec.task_parts t ++ drop at.new parts.now) }
     ensures names { IfOk result (λ t.
         drop at_name.old names.now ≡ spec.task_names t ++ drop at_name.new names.now) }
     ensures blocks { IfOk result (λ t.
         t.blocks.items ≡ spec.numbers_from first (length t.blocks.items)) }
+    ensures ahead { IfOk result (λ t. AreOfTrees (first + length t.blocks.items)
+        (drop at_name.new names.now) (drop at.new parts.now)) }
+    ensures onward { OnOk result (at.old < at.new) }
 {
-    go_over_task(parts, at)?;
-    let Some(name) = next_name(names, at_name) else {
-        return Err(OutOfMemory);
-    };
+    go_over(parts, at);
+    let name = next_name(names, at_name);
     let variables = variables_at(alloc, parts, at, names, at_name)?;
-    let count = go_over_body(parts, at)?;
+    let count = go_over_body(parts, at);
     let blocks = numbers_from(alloc, first, count)?;
-    let body = body_at(alloc, MOST_DEPTH, parts, at)?;
-    go_over_task_end(parts, at)?;
+    let body = body_at(alloc, parts, at)?;
+    go_over(parts, at);
     Ok(Task {
         name,
         variables,
@@ -160,9 +130,9 @@ fn task_at(
     })
 }
 
-/// The program that spells these names and parts; where none does that a text may have, the answer
-/// is as where memory runs out.
+/// The program that spells these names and parts, which are those of trees.
 pub fn program_of(alloc: Global, names: &[Name], parts: &[Part]) -> Result<StProgram, OutOfMemory>
+    requires { AreOfTrees 0 names.now parts.now }
     ensures { IfOk result (λ p. Spells p.tasks.items names.now parts.now) }
 {
     let mut tasks = Vec::new(alloc);
@@ -170,19 +140,9 @@ pub fn program_of(alloc: Global, names: &[Name], parts: &[Part]) -> Result<StPro
     let mut at_name = 0;
     let mut blocks = 0usize;
     while at < parts.len() {
-        let before = at;
         let task = task_at(alloc, parts, &mut at, names, &mut at_name, blocks)?;
-        let Some(sum) = blocks_behind(blocks, &task) else {
-            return Err(OutOfMemory);
-        };
-        blocks = sum;
+        blocks += task.blocks.len();
         push(&mut tasks, task)?;
-        if at <= before {
-            return Err(OutOfMemory);
-        }
-    }
-    if at_name < names.len() {
-        return Err(OutOfMemory);
     }
     Ok(StProgram { tasks })
 }

@@ -1,60 +1,89 @@
 // Statements from their parts.
 
-ghost use Rattle.std.specs.Prelude.{◌≡◌, ◌++◌, ◌∷◌, IfOk, drop, map};
+ghost use Rattle.std.specs.Prelude.{◌≡◌, ◌≤◌, ◌<◌, ◌++◌, ◌∷◌, Bool, true, false, List, IfOk, OnOk, drop, map};
+ghost use Rattle.st_build.specs.Ahead.{IsInThen};
 ghost use Rattle.st_parts.specs.Parts as spec;
+ghost use Rattle.st_parts.specs.Places as places;
+ghost use Rattle.st_parts.specs.Places.{Around, Inside, IsInside, IsSelected, Passes, Selected, Then};
 ghost use Rattle.st_parts.specs.declared.part.Part.{Part};
 
-use crate::cursor::{go_over_call_end, go_over_else, go_over_end_case, go_over_end_if, next, push};
+use crate::cursor::{begins, go_over, next, push};
 use crate::expression::expr_at;
 use out_of_memory::OutOfMemory;
 use st_parts::Part;
 use st_tree::{Branch, Expr, Given, Stmt};
 use std::alloc::Global;
 
+// Whether a call ends at this place.
+fn ends_call(parts: &[Part], at: usize) -> bool
+    ensures { result ≡ places.ends_call (drop at parts.now) }
+{
+    matches!(parts.get(at), Some(Part::CallEnd))
+}
+
+// Whether a branch stands at this place.
+fn branches(parts: &[Part], at: usize) -> bool
+    ensures { result ≡ places.branches (drop at parts.now) }
+{
+    matches!(parts.get(at), Some(Part::Branch(_)))
+}
+
 // What a key gives, whose parts stand from this place on.
 fn given_at(alloc: Global, parts: &[Part], at: &mut usize) -> Result<Given, OutOfMemory>
-    ensures { IfOk result (λ g.
+    requires inside { IsInside 0 true (drop at.old parts.now) }
+    requires goes_on { places.ends_call (drop at.old parts.now) ≡ false }
+    ensures spelled { IfOk result (λ g.
         drop at.old parts.now ≡ spec.given_parts g ++ drop at.new parts.now) }
+    ensures passes { (around : List Around) → OnOk result
+        (Passes (Inside 0 true around) (Inside 0 true around)
+        (drop at.old parts.now) (drop at.new parts.now)) }
+    ensures onward { OnOk result (at.old < at.new) }
 {
-    match parts.get(*at).copied() {
-        Some(Part::Mode(mode)) => {
-            *at += 1;
-            Ok(Given::Mode(mode))
-        }
-        Some(Part::Master(axis)) => {
-            *at += 1;
-            Ok(Given::Master(axis))
-        }
-        _ => number_at(alloc, parts, at),
+    if begins(parts, *at) {
+        return number_at(alloc, parts, at);
+    }
+    match next(parts, at) {
+        Part::Mode(mode) => Ok(Given::Mode(mode)),
+        Part::Master(axis) => Ok(Given::Master(axis)),
+        _ => unreachable!(),
     }
 }
 
 // A number for a key.
 fn number_at(alloc: Global, parts: &[Part], at: &mut usize) -> Result<Given, OutOfMemory>
-    ensures { IfOk result (λ g.
+    requires inside { IsInside 0 true (drop at.old parts.now) }
+    requires begun { places.begins (drop at.old parts.now) ≡ true }
+    ensures spelled { IfOk result (λ g.
         drop at.old parts.now ≡ spec.given_parts g ++ drop at.new parts.now) }
+    ensures passes { (around : List Around) → OnOk result
+        (Passes (Inside 0 true around) (Inside 0 true around)
+        (drop at.old parts.now) (drop at.new parts.now)) }
+    ensures onward { OnOk result (at.old < at.new) }
 {
     let value = expr_at(alloc, parts, at)?;
     match next(parts, at) {
-        Some(Part::Given(key)) => Ok(Given::Number { key, value }),
-        _ => Err(OutOfMemory),
+        Part::Given(key) => Ok(Given::Number { key, value }),
+        _ => unreachable!(),
     }
 }
 
 // What the keys of a call give.
 fn all_given_at(alloc: Global, parts: &[Part], at: &mut usize) -> Result<Vec<Given>, OutOfMemory>
-    ensures { IfOk result (λ v. drop at.old parts.now ≡
+    requires { IsInside 0 true (drop at.old parts.now) }
+    ensures spelled { IfOk result (λ v. drop at.old parts.now ≡
         spec.all_of (map spec.given_parts v.items) ++ drop at.new parts.now) }
+    ensures passes { (around : List Around) → OnOk result
+        (Passes (Inside 0 true around) (Inside 0 true around)
+        (drop at.old parts.now) (drop at.new parts.now)) }
+    ensures ended { OnOk result (places.ends_call (drop at.new parts.now) ≡ true) }
+    ensures onward { OnOk result (at.old ≤ at.new) }
 {
     let mut given = Vec::new(alloc);
-    for _gone in 0..parts.len() {
-        if matches!(parts.get(*at), Some(Part::CallEnd)) {
-            return Ok(given);
-        }
+    while !ends_call(parts, *at) {
         let one = given_at(alloc, parts, at)?;
         push(&mut given, one)?;
     }
-    Err(OutOfMemory)
+    Ok(given)
 }
 
 // A call after its value for `execute`.
@@ -65,12 +94,17 @@ fn call_at(
     instance: u16,
     execute: Expr,
 ) -> Result<Stmt, OutOfMemory>
-    ensures { IfOk result (λ s.
+    requires { IsInside 0 true (drop at.old parts.now) }
+    ensures spelled { IfOk result (λ s.
         spec.expr_parts execute ++ (Part.Execute instance ∷ drop at.old parts.now) ≡
         spec.stmt_parts s ++ drop at.new parts.now) }
+    ensures passes { (around : List Around) → OnOk result
+        (Passes (Inside 0 true around) (Inside 0 false around)
+        (drop at.old parts.now) (drop at.new parts.now)) }
+    ensures onward { OnOk result (at.old ≤ at.new) }
 {
     let given = all_given_at(alloc, parts, at)?;
-    go_over_call_end(parts, at)?;
+    go_over(parts, at);
     Ok(Stmt::Call {
         instance,
         execute,
@@ -78,34 +112,21 @@ fn call_at(
     })
 }
 
-// Whether statements go on with a part.
-fn goes_on(part: Option<&Part>) -> bool {
-    !matches!(
-        part,
-        None | Some(Part::Else | Part::EndIf | Part::EndCase | Part::Branch(_) | Part::TaskEnd)
-    )
-}
-
-/// The statements whose parts stand from this place on, nested at most so deep. They are gone over.
+/// The statements whose parts stand from this place on. They are gone over.
 #[cycle(statement)]
-pub fn body_at(
-    alloc: Global,
-    depth: u32,
-    parts: &[Part],
-    at: &mut usize,
-) -> Result<Vec<Stmt>, OutOfMemory>
-    ensures { IfOk result (λ v.
+pub fn body_at(alloc: Global, parts: &[Part], at: &mut usize) -> Result<Vec<Stmt>, OutOfMemory>
+    requires { IsInside 0 false (drop at.old parts.now) }
+    ensures spelled { IfOk result (λ v.
         drop at.old parts.now ≡ spec.body_parts v.items ++ drop at.new parts.now) }
+    ensures passes { (around : List Around) → OnOk result
+        (Passes (Inside 0 false around) (Inside 0 false around)
+        (drop at.old parts.now) (drop at.new parts.now)) }
+    ensures ended { OnOk result (places.begins (drop at.new parts.now) ≡ false) }
+    ensures onward { OnOk result (at.old ≤ at.new) }
 {
-    if depth == 0 {
-        return Err(OutOfMemory);
-    }
     let mut body = Vec::new(alloc);
-    for _gone in 0..parts.len() {
-        if !goes_on(parts.get(*at)) {
-            return Ok(body);
-        }
-        let statement = statement_at(alloc, depth - 1, parts, at)?;
+    while begins(parts, *at) {
+        let statement = statement_at(alloc, parts, at)?;
         push(&mut body, statement)?;
     }
     Ok(body)
@@ -113,22 +134,23 @@ pub fn body_at(
 
 // A statement.
 #[cycle(statement)]
-fn statement_at(
-    alloc: Global,
-    depth: u32,
-    parts: &[Part],
-    at: &mut usize,
-) -> Result<Stmt, OutOfMemory>
-    ensures { IfOk result (λ s.
+fn statement_at(alloc: Global, parts: &[Part], at: &mut usize) -> Result<Stmt, OutOfMemory>
+    requires inside { IsInside 0 false (drop at.old parts.now) }
+    requires begun { places.begins (drop at.old parts.now) ≡ true }
+    ensures spelled { IfOk result (λ s.
         drop at.old parts.now ≡ spec.stmt_parts s ++ drop at.new parts.now) }
+    ensures passes { (around : List Around) → OnOk result
+        (Passes (Inside 0 false around) (Inside 0 false around)
+        (drop at.old parts.now) (drop at.new parts.now)) }
+    ensures onward { OnOk result (at.old < at.new) }
 {
     let value = expr_at(alloc, parts, at)?;
     match next(parts, at) {
-        Some(Part::Set(variable)) => Ok(Stmt::Set { variable, value }),
-        Some(Part::Execute(instance)) => call_at(alloc, parts, at, instance, value),
-        Some(Part::If) => if_at(alloc, depth, parts, at, value),
-        Some(Part::Case) => case_at(alloc, depth, parts, at, value),
-        _ => Err(OutOfMemory),
+        Part::Set(variable) => Ok(Stmt::Set { variable, value }),
+        Part::Execute(instance) => call_at(alloc, parts, at, instance, value),
+        Part::If => if_at(alloc, parts, at, value),
+        Part::Case => case_at(alloc, parts, at, value),
+        _ => unreachable!(),
     }
 }
 
@@ -136,19 +158,23 @@ fn statement_at(
 #[cycle(statement)]
 fn if_at(
     alloc: Global,
-    depth: u32,
     parts: &[Part],
     at: &mut usize,
     condition: Expr,
 ) -> Result<Stmt, OutOfMemory>
-    ensures { IfOk result (λ s.
+    requires { IsInThen (drop at.old parts.now) }
+    ensures spelled { IfOk result (λ s.
         spec.expr_parts condition ++ (Part.If ∷ drop at.old parts.now) ≡
         spec.stmt_parts s ++ drop at.new parts.now) }
+    ensures passes { (around : List Around) → OnOk result
+        (Passes (Inside 0 false (Then ∷ around)) (Inside 0 false around)
+        (drop at.old parts.now) (drop at.new parts.now)) }
+    ensures onward { OnOk result (at.old ≤ at.new) }
 {
-    let then = body_at(alloc, depth, parts, at)?;
-    go_over_else(parts, at)?;
-    let otherwise = body_at(alloc, depth, parts, at)?;
-    go_over_end_if(parts, at)?;
+    let then = body_at(alloc, parts, at)?;
+    go_over(parts, at);
+    let otherwise = body_at(alloc, parts, at)?;
+    go_over(parts, at);
     Ok(Stmt::If {
         condition,
         then,
@@ -160,19 +186,23 @@ fn if_at(
 #[cycle(statement)]
 fn case_at(
     alloc: Global,
-    depth: u32,
     parts: &[Part],
     at: &mut usize,
     selector: Expr,
 ) -> Result<Stmt, OutOfMemory>
-    ensures { IfOk result (λ s.
+    requires { IsSelected (drop at.old parts.now) }
+    ensures spelled { IfOk result (λ s.
         spec.expr_parts selector ++ (Part.Case ∷ drop at.old parts.now) ≡
         spec.stmt_parts s ++ drop at.new parts.now) }
+    ensures passes { (around : List Around) → OnOk result
+        (Passes (Selected around) (Inside 0 false around)
+        (drop at.old parts.now) (drop at.new parts.now)) }
+    ensures onward { OnOk result (at.old ≤ at.new) }
 {
-    let branches = branches_at(alloc, depth, parts, at)?;
-    go_over_else(parts, at)?;
-    let otherwise = body_at(alloc, depth, parts, at)?;
-    go_over_end_case(parts, at)?;
+    let branches = branches_at(alloc, parts, at)?;
+    go_over(parts, at);
+    let otherwise = body_at(alloc, parts, at)?;
+    go_over(parts, at);
     Ok(Stmt::Case {
         selector,
         branches,
@@ -182,40 +212,39 @@ fn case_at(
 
 // A branch.
 #[cycle(statement)]
-fn branch_at(
-    alloc: Global,
-    depth: u32,
-    parts: &[Part],
-    at: &mut usize,
-) -> Result<Branch, OutOfMemory>
-    ensures { IfOk result (λ b.
+fn branch_at(alloc: Global, parts: &[Part], at: &mut usize) -> Result<Branch, OutOfMemory>
+    requires selected { IsSelected (drop at.old parts.now) }
+    requires begun { places.branches (drop at.old parts.now) ≡ true }
+    ensures spelled { IfOk result (λ b.
         drop at.old parts.now ≡ spec.branch_parts b ++ drop at.new parts.now) }
+    ensures passes { (around : List Around) → OnOk result
+        (Passes (Selected around) (Selected around)
+        (drop at.old parts.now) (drop at.new parts.now)) }
+    ensures onward { OnOk result (at.old < at.new) }
 {
-    let Some(Part::Branch(value)) = next(parts, at) else {
-        return Err(OutOfMemory);
+    let Part::Branch(value) = next(parts, at) else {
+        unreachable!()
     };
-    let body = body_at(alloc, depth, parts, at)?;
+    let body = body_at(alloc, parts, at)?;
     Ok(Branch { value, body })
 }
 
 // The branches of a `CASE`.
 #[cycle(statement)]
-fn branches_at(
-    alloc: Global,
-    depth: u32,
-    parts: &[Part],
-    at: &mut usize,
-) -> Result<Vec<Branch>, OutOfMemory>
-    ensures { IfOk result (λ v.
+fn branches_at(alloc: Global, parts: &[Part], at: &mut usize) -> Result<Vec<Branch>, OutOfMemory>
+    requires { IsSelected (drop at.old parts.now) }
+    ensures spelled { IfOk result (λ v.
         drop at.old parts.now ≡ spec.branches_parts v.items ++ drop at.new parts.now) }
+    ensures passes { (around : List Around) → OnOk result
+        (Passes (Selected around) (Selected around)
+        (drop at.old parts.now) (drop at.new parts.now)) }
+    ensures ended { OnOk result (places.branches (drop at.new parts.now) ≡ false) }
+    ensures onward { OnOk result (at.old ≤ at.new) }
 {
-    let mut branches = Vec::new(alloc);
-    for _gone in 0..parts.len() {
-        if !matches!(parts.get(*at), Some(Part::Branch(_))) {
-            return Ok(branches);
-        }
-        let branch = branch_at(alloc, depth, parts, at)?;
-        push(&mut branches, branch)?;
+    let mut found = Vec::new(alloc);
+    while branches(parts, *at) {
+        let branch = branch_at(alloc, parts, at)?;
+        push(&mut found, branch)?;
     }
-    Ok(branches)
+    Ok(found)
 }

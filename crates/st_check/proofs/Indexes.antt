@@ -1,4 +1,5 @@
 -- An index after a name was given a value, and what it then has of the names in a list.
+-- for: check_text
 use Rattle.std.proofs.Common.{◌≡◌, ℕ, Bool, true, false, Option, Some, None, List, [], ◌∷◌, ◌++◌, Vec, Global, refl, sym, ap, ◌∙◌, subst, inl, inr}
 use Rattle.std.specs.Prelude.{cond, is_some, ◌||◌}
 use Rattle.std.specs.BTreeMap.{insert_entry, is_at}

@@ -1,4 +1,5 @@
 -- Laws of runs: one after another, and where a reader has stopped.
+-- for: check_text
 use Rattle.std.proofs.Common.{◌≡◌, ℕ, zero, suc, true, Result, Ok, Err, OnOk, List, [], ◌∷◌, ◌++◌, refl, sym, ap, ◌∙◌}
 use Rattle.st_check.specs.Reading.{Stand, run, step}
 use Rattle.st_tokens.specs.Tokens.{Placed, last_line_from, tokens_from, tokens_of}

@@ -13,7 +13,7 @@ use Rattle.st_parts.specs.declared.part.Part.{Part}
 
 -- how many tokens there were; the machine with the tasks and blocks so far; the names of all tasks
 -- and blocks of the text; the names of the task that is under way, and how many of its variables
--- and of the blocks before it there are; the types of the operands that wait, the last first; how
+-- and of the blocks before its declarations there are; the types of the operands that wait, the last first; how
 -- many statements there were, and how many `IF`, `CASE` and parentheses are open; what is under
 -- way; the first rule that is broken; and what is read, the names of tasks and variables apart from
 -- the parts

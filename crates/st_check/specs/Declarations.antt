@@ -1,5 +1,5 @@
 -- What tasks and declarations do. This project's profile.
-use Rattle.std.specs.Prelude.{ℕ, suc, ◌-◌, ℤ, pos, neg_ℤ, Bool, false, not, ◌&&◌, nat_le, nat_lt, min, if◌then◌else◌, is_none, Option, Some, None, List, [], ◌∷◌, ◌++◌, length}
+use Rattle.std.specs.Prelude.{ℕ, suc, ◌-◌, ℤ, pos, neg_ℤ, Bool, false, not, nat_le, nat_lt, min, if◌then◌else◌, is_none, is_some, Option, Some, None, List, [], ◌∷◌, ◌++◌, length}
 use Rattle.std.specs.Option.{option_map_or}
 use Rattle.command_pool.specs.declared.kind.BlockKind.{BlockKind}
 use Rattle.machine_words.specs.Names.{object_at}
@@ -8,7 +8,7 @@ use Rattle.motion_history.specs.Faults.{block_fault, task_fault, whole_fault}
 use Rattle.motion_history.specs.Setup.{Setup}
 use Rattle.motion_history.specs.declared.config.BlockDef.{BlockDef}
 use Rattle.motion_history.specs.declared.fault.ConfigFault.{ConfigFault}
-use Rattle.st_check.specs.Checked.{Checked, broken_unless, lost_unless, with_part}
+use Rattle.st_check.specs.Checked.{Checked, broken, broken_unless, lost_unless, with_part}
 use Rattle.st_check.specs.Names.{is_taken}
 use Rattle.st_check.specs.declared.known.Sort.{Sort}
 use Rattle.st_check.specs.declared.known.Sort.TheVariants as sort
@@ -27,27 +27,36 @@ program line c =
       blocks_before = length c.setup.blocks;
     })
 
--- an item is added to the machine where no rule is broken so far, and the machine can have it
-abbrev pub added : Checked → Option ConfigFault → Setup → Setup
-added c refusal after = if is_none c.fault && is_none refusal then after else c.setup
+-- an item is added to the machine where no rule is broken so far; one that the machine can't have
+-- breaks S6
+abbrev pub added : ℕ → Option ConfigFault → Setup → Checked → Checked
+added line refusal after c =
+    if is_some c.fault then c
+    else if is_none refusal then record c { setup = after } else broken line 6 c
 
 -- the machine with a task
-abbrev pub setup_with_task : Checked → List ℕ → Setup
-setup_with_task c name =
-    added c (task_fault c.setup name) (record c.setup { tasks = c.setup.tasks ++ name ∷ [] })
+unfoldable pub machine_with_task : ℕ → List ℕ → Checked → Checked
+machine_with_task line name c =
+    added line (task_fault c.setup name) (record c.setup { tasks = c.setup.tasks ++ name ∷ [] }) c
 
--- a task with this name
-abbrev pub with_task : List ℕ → Checked → Checked
-with_task name c = record c {
-  setup = setup_with_task c name;
+-- a task begins, in which nothing is named yet
+abbrev pub with_name : List ℕ → Checked → Checked
+with_name name c = record c {
   used = c.used ++ name ∷ [];
+  known = [];
+  statement = record c.statement { target = None };
+  call = record c.call { callee = None; slot = None };
   names = c.names ++ name ∷ [];
   parts = c.parts ++ part.Task ∷ [];
 }
 
+-- a task with this name
+abbrev pub with_task : ℕ → List ℕ → Checked → Checked
+with_task line name c = with_name name (machine_with_task line name c)
+
 -- the name of a task is a new one
 unfoldable pub task_name : ℕ → List ℕ → Checked → Checked
-task_name line name c = with_task name (lost_unless (not (is_taken c name)) line c)
+task_name line name c = with_task line name (lost_unless (not (is_taken c name)) line c)
 
 -- the name of a variable or a block is a new one
 unfoldable pub declares : ℕ → List ℕ → Checked → Checked
@@ -72,7 +81,9 @@ with_variable start name c = record c {
 
 -- what is declared is a variable
 unfoldable pub variable : Start → Checked → Checked
-variable start c = option_map_or (λ name. with_variable start name c) c.declaration.name c
+variable start c =
+    option_map_or (λ name. with_variable start name c) c.declaration.name
+    (lost_unless false c.declaration.line c)
 
 -- a number with its sign; what stands for one that is too great counts as the greatest
 unfoldable pub signed : Bool → ℕ → ℤ
@@ -105,10 +116,10 @@ block_of c name kind object =
     record { name = name; task = task_of c; kind = kind; object = object }
 
 -- the machine with a block
-abbrev pub setup_with_block : Checked → BlockDef → Setup
-setup_with_block c b =
-    added c (block_fault c.setup b.name b.task b.kind b.object)
-    (record c.setup { blocks = c.setup.blocks ++ b ∷ [] })
+unfoldable pub machine_with_block : ℕ → BlockDef → Checked → Checked
+machine_with_block line b c =
+    added line (block_fault c.setup b.name b.task b.kind b.object)
+    (record c.setup { blocks = c.setup.blocks ++ b ∷ [] }) c
 
 -- what may be called
 abbrev pub callee_of : Checked → BlockDef → Sort
@@ -118,18 +129,21 @@ callee_of c b = sort.Block (record {
   axes = axes_of c.setup b;
 })
 
--- a block of the task
-abbrev pub with_block : BlockDef → Checked → Checked
-with_block b c = record c {
-  setup = setup_with_block c b;
+-- a block may be called
+abbrev pub with_callee : BlockDef → Sort → Checked → Checked
+with_callee b callee c = record c {
   used = c.used ++ b.name ∷ [];
-  known = c.known ++ record { name = b.name; sort = callee_of c b } ∷ [];
+  known = c.known ++ record { name = b.name; sort = callee } ∷ [];
 }
+
+-- a block of the task
+abbrev pub with_block : ℕ → BlockDef → Checked → Checked
+with_block line b c = with_callee b (callee_of c b) (machine_with_block line b c)
 
 -- a block of this name and kind acts on this axis or group, which is there
 abbrev pub acts_on : ℕ → List ℕ → List ℕ → BlockKind → Checked → Checked
 acts_on line object name kind c =
-    option_map_or (λ place. with_block (block_of c name kind place) c)
+    option_map_or (λ place. with_block line (block_of c name kind place) c)
     (object_at c.setup kind object) (lost_unless false line c)
 
 -- the axis or group on which the block acts
@@ -141,7 +155,10 @@ object line name c =
 
 -- the declarations end
 unfoldable pub body : Checked → Checked
-body c = with_part (part.Body (length c.setup.blocks - c.blocks_before)) c
+body c =
+    record (with_part (part.Body (length c.setup.blocks - c.blocks_before)) c) {
+      blocks_before = length c.setup.blocks;
+    }
 
 -- the text's end: there is a block
 unfoldable pub end : ℕ → Checked → Checked

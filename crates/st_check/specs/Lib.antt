@@ -10,3 +10,4 @@ pub mod Statements
 pub mod Noted
 pub mod Reading
 pub mod Told
+pub mod Going

@@ -90,7 +90,7 @@ opening_checked setup = record {
   nested = 0;
   declaration = record { name = None; line = 0; kind = None };
   statement = record { line = 0; is_lost = false; is_mistyped = false; target = None };
-  call = record { callee = None; next = 0; slot = None };
+  call = record { callee = None; line = 0; next = 0; slot = None };
   name = record { sort = None; line = 0 };
   fault = None;
   names = [];

@@ -1,8 +1,6 @@
 // What declarations of blocks do.
 
-ghost use Rattle.std.specs.Prelude.{◌≡◌, ◌++◌, ◌∷◌, [], OnOk, is_none, if◌then◌else◌};
-ghost use Rattle.motion_history.specs.Faults.{block_fault};
-ghost use Rattle.motion_history.specs.declared.config.BlockDef.{BlockDef};
+ghost use Rattle.std.specs.Prelude.{◌≡◌, OnOk};
 ghost use Rattle.st_check.specs.Declarations as spec;
 
 use crate::checker::Checker;
@@ -10,22 +8,8 @@ use crate::known::{Callee, Declaration, Known, Sort};
 use axis_state::Name;
 use command_pool::BlockKind;
 use machine_words::{axes_of, object_at};
-use motion_history::{BlockDef, Builder, ConfigFault};
+use motion_history::{BlockDef, ConfigFault};
 use out_of_memory::OutOfMemory;
-
-// Adds a block to the machine, if it can have it.
-fn add_block(machine: &mut Builder, block: &BlockDef) -> Result<(), OutOfMemory>
-    ensures { OnOk result (machine.new ≡
-        (if is_none (block_fault machine.old block.now.name block.now.task block.now.kind
-        block.now.object)
-        then record machine.old { blocks = machine.old.blocks ++ block.now ∷ [] }
-        else machine.old)) }
-{
-    match machine.block(block.name.bytes(), block.task, block.kind, block.object) {
-        Err(ConfigFault::OutOfMemory) => Err(OutOfMemory),
-        _ => Ok(()),
-    }
-}
 
 impl Checker {
     /// What is declared is a block.
@@ -72,7 +56,7 @@ impl Checker {
                     kind,
                     object: place,
                 };
-                self.with_block(&block)
+                self.with_block(line, &block)
             }
             None => {
                 self.need_name(false, line);
@@ -89,11 +73,11 @@ impl Checker {
     }
 
     // Adds a block.
-    fn with_block(&mut self, block: &BlockDef) -> Result<(), OutOfMemory>
-        ensures { OnOk result (self.new ≡ spec.with_block block.now self.old) }
+    fn with_block(&mut self, line: u64, block: &BlockDef) -> Result<(), OutOfMemory>
+        ensures { OnOk result (self.new ≡ spec.with_block line block.now self.old) }
     {
         let callee = self.callee_of(block);
-        self.machine_with_block(block)?;
+        self.machine_with_block(line, block)?;
         self.used.push(block.name)?;
         let known = Known {
             name: block.name,
@@ -114,13 +98,20 @@ impl Checker {
     }
 
     // Adds a block to the machine where no rule is broken so far.
-    fn machine_with_block(&mut self, block: &BlockDef) -> Result<(), OutOfMemory>
-        ensures { OnOk result (self.new ≡
-            record self.old { setup = spec.setup_with_block self.old block.now }) }
+    #[tactic(auto, unfolding(crate::specs::Declarations::machine_with_block))]
+    fn machine_with_block(&mut self, line: u64, block: &BlockDef) -> Result<(), OutOfMemory>
+        ensures { OnOk result (self.new ≡ spec.machine_with_block line block.now self.old) }
     {
         if self.fault.is_some() {
             return Ok(());
         }
-        add_block(&mut self.machine, block)
+        match self
+            .machine
+            .block(block.name.bytes(), block.task, block.kind, block.object)
+        {
+            Ok(_) => Ok(()),
+            Err(ConfigFault::OutOfMemory) => Err(OutOfMemory),
+            Err(_) => Ok(self.break_rule(line, 6)),
+        }
     }
 }

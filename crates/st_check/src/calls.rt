@@ -8,7 +8,7 @@ use crate::checker::Checker;
 use crate::keys::{key_of_slot, rank_of, slot_of};
 use crate::known::{Call, Callee, Slot, Sort, ValueType};
 use axis_state::Name;
-use fb_outputs::mode_named;
+use fb_outputs::{Input, mode_named};
 use machine_words::axis_at;
 use out_of_memory::OutOfMemory;
 use st_parts::Part;
@@ -33,6 +33,32 @@ fn number_of(callee: Option<Callee>) -> u16
     }
 }
 
+// Whether a key is that of a mode.
+fn gives_mode(slot: Option<Slot>) -> bool
+    ensures { result ≡ spec.gives Input.Mode slot }
+{
+    matches!(
+        slot,
+        Some(Slot {
+            input: Input::Mode,
+            ..
+        })
+    )
+}
+
+// Whether it is that of a master.
+fn gives_master(slot: Option<Slot>) -> bool
+    ensures { result ≡ spec.gives Input.Master slot }
+{
+    matches!(
+        slot,
+        Some(Slot {
+            input: Input::Master,
+            ..
+        })
+    )
+}
+
 impl Checker {
     /// `(` after a name.
     #[tactic(auto, unfolding(crate::specs::Statements::calls))]
@@ -44,6 +70,7 @@ impl Checker {
         self.need_name(callee.is_some(), line);
         self.call = Call {
             callee,
+            line,
             next: 0,
             slot: None,
         };
@@ -54,7 +81,10 @@ impl Checker {
     pub fn executed(&mut self) -> Result<(), OutOfMemory>
         ensures { OnOk result (self.new ≡ spec.executed self.old) }
     {
-        let instance = number_of(self.call.callee);
+        let callee = self.call.callee;
+        let instance = number_of(callee);
+        let line = self.statement.line;
+        self.need_name(callee.is_some(), line);
         self.take(ValueType::Bool);
         self.add(Part::Execute(instance))
     }
@@ -67,6 +97,7 @@ impl Checker {
         let next = self.call.next;
         let call = Call {
             callee: self.call.callee,
+            line,
             next: next.max(rank + 1),
             slot: Some(slot),
         };
@@ -79,6 +110,7 @@ impl Checker {
         ensures { self.new ≡ spec.without_slot line self.old }
     {
         let call = Call {
+            line,
             slot: None,
             ..self.call
         };
@@ -92,6 +124,7 @@ impl Checker {
         ensures { self.new ≡ spec.key line word.now self.old }
     {
         let Some(callee) = self.call.callee else {
+            self.call.line = line;
             self.call.slot = None;
             return;
         };
@@ -106,8 +139,8 @@ impl Checker {
     pub fn mode(&mut self, line: u64, word: &Name) -> Result<(), OutOfMemory>
         ensures { OnOk result (self.new ≡ spec.mode line word.now self.old) }
     {
-        if self.call.slot.is_none() {
-            return Ok(());
+        if !gives_mode(self.call.slot) {
+            return self.not_taken();
         }
         match mode_named(word.bytes()) {
             Some(mode) => self.add(Part::Mode(mode)),
@@ -120,13 +153,22 @@ impl Checker {
     pub fn master(&mut self, line: u64, word: &Name) -> Result<(), OutOfMemory>
         ensures { OnOk result (self.new ≡ spec.master line word.now self.old) }
     {
-        if self.call.slot.is_none() {
-            return Ok(());
+        if !gives_master(self.call.slot) {
+            return self.not_taken();
         }
         match axis_at(&self.machine, word.bytes()) {
             Some(axis) => self.add(Part::Master(axis)),
             None => self.lost(line),
         }
+    }
+
+    // The last key is none that the block takes.
+    fn not_taken(&mut self) -> Result<(), OutOfMemory>
+        ensures { OnOk result (self.new ≡ spec.not_taken self.old) }
+    {
+        let line = self.call.line;
+        self.break_rule(line, 5);
+        Ok(())
     }
 
     // A name is wrong in this line.
@@ -144,12 +186,12 @@ impl Checker {
     {
         let Some(slot) = self.call.slot else {
             self.pop_type();
-            return Ok(());
+            return self.not_taken();
         };
         self.take(ValueType::Dint);
         match key_of_slot(slot) {
             Some(key) => self.add(Part::Given(key)),
-            None => Ok(()),
+            None => self.not_taken(),
         }
     }
 

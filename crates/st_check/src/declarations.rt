@@ -1,7 +1,6 @@
 // What tasks and declarations of variables do.
 
-ghost use Rattle.std.specs.Prelude.{◌≡◌, ◌++◌, ◌∷◌, [], OnOk, is_none, if◌then◌else◌};
-ghost use Rattle.motion_history.specs.Faults.{task_fault};
+ghost use Rattle.std.specs.Prelude.{◌≡◌, OnOk};
 ghost use Rattle.st_check.specs.Declarations as spec;
 
 use crate::checker::Checker;
@@ -9,7 +8,7 @@ use crate::known::{Declaration, Known, Sort, ValueType};
 use crate::pile::push;
 use axis_state::Name;
 use machine_words::is_whole;
-use motion_history::{Builder, ConfigFault};
+use motion_history::ConfigFault;
 use out_of_memory::OutOfMemory;
 use st_parts::Part;
 use st_tree::Start;
@@ -36,19 +35,6 @@ fn type_of(start: Start) -> ValueType
     }
 }
 
-// Adds a task to the machine, if it can have it.
-fn add_task(machine: &mut Builder, name: &Name) -> Result<(), OutOfMemory>
-    ensures { OnOk result (machine.new ≡
-        (if is_none (task_fault machine.old name.now)
-        then record machine.old { tasks = machine.old.tasks ++ name.now ∷ [] }
-        else machine.old)) }
-{
-    match machine.task(name.bytes()) {
-        Err(ConfigFault::OutOfMemory) => Err(OutOfMemory),
-        _ => Ok(()),
-    }
-}
-
 impl Checker {
     /// `PROGRAM`.
     #[tactic(auto, unfolding(crate::specs::Declarations::program))]
@@ -69,28 +55,36 @@ impl Checker {
     {
         let is_new = !self.is_taken(name);
         self.need_name(is_new, line);
-        self.with_task(name)
+        self.with_task(line, name)
     }
 
     // Begins a task of this name.
-    fn with_task(&mut self, name: &Name) -> Result<(), OutOfMemory>
-        ensures { OnOk result (self.new ≡ spec.with_task name.now self.old) }
+    fn with_task(&mut self, line: u64, name: &Name) -> Result<(), OutOfMemory>
+        ensures { OnOk result (self.new ≡ spec.with_task line name.now self.old) }
     {
-        self.machine_with_task(name)?;
+        self.machine_with_task(line, name)?;
+        self.known.clear();
+        self.statement.target = None;
+        self.call.callee = None;
+        self.call.slot = None;
         self.used.push(*name)?;
         push(&mut self.names, *name)?;
         push(&mut self.parts, Part::Task)
     }
 
     // Adds a task to the machine where no rule is broken so far.
-    fn machine_with_task(&mut self, name: &Name) -> Result<(), OutOfMemory>
-        ensures { OnOk result (self.new ≡
-            record self.old { setup = spec.setup_with_task self.old name.now }) }
+    #[tactic(auto, unfolding(crate::specs::Declarations::machine_with_task))]
+    fn machine_with_task(&mut self, line: u64, name: &Name) -> Result<(), OutOfMemory>
+        ensures { OnOk result (self.new ≡ spec.machine_with_task line name.now self.old) }
     {
         if self.fault.is_some() {
             return Ok(());
         }
-        add_task(&mut self.machine, name)
+        match self.machine.task(name.bytes()) {
+            Ok(_) => Ok(()),
+            Err(ConfigFault::OutOfMemory) => Err(OutOfMemory),
+            Err(_) => Ok(self.break_rule(line, 6)),
+        }
     }
 
     /// The name of a variable or a block.
@@ -114,7 +108,11 @@ impl Checker {
     {
         match self.declaration.name {
             Some(name) => self.with_variable(start, name),
-            None => Ok(()),
+            None => {
+                let line = self.declaration.line;
+                self.need_name(false, line);
+                Ok(())
+            }
         }
     }
 
@@ -147,7 +145,9 @@ impl Checker {
         ensures { OnOk result (self.new ≡ spec.body self.old) }
     {
         let blocks = self.machine.blocks().len() as u16;
-        self.add(Part::Body(blocks.saturating_sub(self.blocks_before)))
+        let before = self.blocks_before;
+        self.blocks_before = blocks;
+        self.add(Part::Body(blocks.saturating_sub(before)))
     }
 
     /// The text's end.

@@ -59,11 +59,12 @@ pub struct Statement {
     pub target: Option<Sort>,
 }
 
-/// The call that is under way: its block, the least place of the next key in their order, and the
-/// key, where it is one that the block takes.
+/// The call that is under way: its block, the line of its last key, the least place of the next key
+/// in their order, and the key, where it is one that the block takes.
 #[derive(Clone, Copy)]
 pub struct Call {
     pub callee: Option<Callee>,
+    pub line: u64,
     pub next: u16,
     pub slot: Option<Slot>,
 }

@@ -60,6 +60,7 @@ fn opening_checker(alloc: Global, machine: Builder) -> Checker
         },
         call: Call {
             callee: None,
+            line: 0,
             next: 0,
             slot: None,
         },

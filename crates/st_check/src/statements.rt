@@ -88,6 +88,8 @@ impl Checker {
             self.typed();
             return self.add(Part::Set(number));
         }
+        let line = self.statement.line;
+        self.need_name(false, line);
         self.take(ValueType::Dint);
         self.typed();
         Ok(())

@@ -1,4 +1,5 @@
 -- The code of a task's statements runs as the scan goes, and no operand is missing in it.
+-- for: next, open, compile
 use Rattle.std.proofs.Common.{◌≡◌, ℕ, ℤ, List, [], ◌∷◌, map, ap, sym, refl, subst, ◌∙◌, append-nil}
 use Rattle.fb_outputs.specs.Inputs.{inputs_off}
 use Rattle.fb_outputs.specs.declared.outputs.Outputs.{Outputs}

@@ -1,4 +1,5 @@
 -- Code that jumps to where some instructions are left is the code that passes those before them.
+-- for: statement
 use Rattle.std.proofs.Common.{◌≡◌, ℕ, ◌+◌, ◌-◌, ℤ, Result, Ok, Err, OnOk, Vec, Global, List, [], ◌∷◌, ◌++◌, length, map, ap, sym, refl, ◌∙◌, append_assoc, arith}
 use Rattle.std.proofs.lemmas.Grind.{common_steps}
 use Rattle.st_tree.specs.declared.expression.Expr.{Expr}

@@ -1,4 +1,5 @@
 -- The calls of a scan whose tree fits a machine are calls of the machine.
+-- for: scans_call_the_machine
 use Rattle.std.proofs.Common.{◌≡◌, ℕ, zero, suc, ◌+◌, ◌<◌, ◌≤◌, ℤ, Bool, true, false, if◌then◌else◌, Option, Some, None, List, [], ◌∷◌, ◌++◌, length, map, sym, refl, subst, arith}
 use Rattle.std.specs.Prelude.{◌==◌, IsTrue, slice_get}
 use Rattle.std.specs.List.{AllByRecursion, list_all}

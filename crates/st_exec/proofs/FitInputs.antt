@@ -1,4 +1,5 @@
 -- What the keys of a call give fits its block.
+-- for: scans_call_the_machine
 use Rattle.std.proofs.Common.{◌≡◌, ℕ, zero, suc, ◌*◌, ◌/◌, ◌^◌, ◌≤◌, ◌<◌, ℤ, Bool, true, false, List, [], ◌∷◌, length, refl, sym, ap, subst, arith, lit≤, w32}
 use Rattle.std.specs.Prelude.{pos, ◌&&◌, IsTrue, nat_lt, slice_index_or, slice_set, unsigned_abs}
 use Rattle.std.specs.Int.{int_wrap}

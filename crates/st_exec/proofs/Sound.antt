@@ -1,4 +1,5 @@
 -- No operand is missing in what a tree is compiled to.
+-- for: compile
 use Rattle.std.proofs.Common.{ℕ, List, [], ◌∷◌, map, sym, subst}
 use Rattle.std.specs.List.{AllByRecursion}
 use Rattle.st_tree.specs.declared.program.Task.{Task}

@@ -1,4 +1,5 @@
 -- The code of a statement runs as the scan of the statement goes.
+-- for: next, open, compile and others
 use Rattle.std.proofs.Common.{◌≡◌, ℕ, ◌+◌, ℤ, Bool, true, false, if◌then◌else◌, List, [], ◌∷◌, ◌++◌, length, map, ap, sym, refl, subst, ◌∙◌, append_assoc}
 use Rattle.std.specs.Ordering.{int_eq}
 use Rattle.fb_outputs.specs.Inputs.{inputs_off}

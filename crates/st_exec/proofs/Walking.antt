@@ -1,4 +1,5 @@
 -- What a run does at one instruction.
+-- for: next, open, answered
 use Rattle.std.proofs.Common.{◌≡◌, ◌≤◌, ℕ, zero, suc, ◌+◌, ◌-◌, ℤ, List, [], ◌∷◌, Some, None, drop, length, min, slice_get, ap, sym, refl, subst, ◌∙◌, arith}
 use Rattle.std.proofs.lemmas.Grind.{common_steps}
 use Rattle.fb_outputs.specs.declared.inputs.Inputs.{Inputs}

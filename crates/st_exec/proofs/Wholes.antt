@@ -1,4 +1,5 @@
 -- No operand is missing in the scan of a tree.
+-- for: compile, scans_have_their_operands
 use Rattle.std.proofs.Common.{ℕ, ℤ, Bool, true, false, if◌then◌else◌, List, [], ◌∷◌, map, sym, subst}
 use Rattle.std.specs.Ordering.{int_eq}
 use Rattle.fb_outputs.specs.declared.outputs.Outputs.{Outputs}

@@ -1,4 +1,5 @@
 -- What a task makes over all rounds, beside the others.
+-- for: st_files
 use Rattle.std.specs.Prelude.{◌≡◌, refl, ℕ, zero, suc, ◌+◌, ◌<◌, Bool, true, false, if◌then◌else◌, Some, List, [], ◌∷◌, map, slice_get}
 use Rattle.std.proofs.Common.{inl, inr, sym, ap, subst, arith}
 use Rattle.bench_run.specs.Run.{Run, a_call, a_cycle, an_end, cycled, first_run, made}

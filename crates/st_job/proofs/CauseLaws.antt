@@ -1,4 +1,5 @@
 -- What the course of the job says of its files and of its status.
+-- for: st_files
 use Rattle.std.specs.Prelude.{◌≡◌, ◌⊎◌, refl, ℕ, true, Option, Some, None, IfSome, Result, Ok, Err, List}
 use Rattle.std.specs.Result.{IsOk, is_ok}
 use Rattle.std.proofs.Common.{inl, inr, ap}

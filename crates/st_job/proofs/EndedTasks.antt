@@ -1,4 +1,5 @@
 -- Where a run ends well, each task has made its end.
+-- for: st_files
 use Rattle.std.specs.Prelude.{◌≡◌, refl, ℕ, zero, suc, ◌+◌, ◌-◌, ◌<◌, Bool, true, false, if◌then◌else◌, Some, Ok, Err, List, [], ◌∷◌, map, slice_get}
 use Rattle.std.proofs.Common.{◌∙◌, inl, inr, sym, ap, arith}
 use Rattle.std.proofs.lemmas.Bool.{or_parts}

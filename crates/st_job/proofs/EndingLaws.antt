@@ -1,4 +1,5 @@
 -- A run of rounds ends for its cause alone.
+-- for: rounds_end_for_their_cause
 use Rattle.std.specs.Prelude.{◌≡◌, ◌↔◌, refl, ◌+◌, Ok, Err, List, [], ◌∷◌, ◌++◌, map}
 use Rattle.std.proofs.Common.{◌∙◌, sym, ap, subst}
 use Rattle.bench_run.proofs.RunLaws.{made_all-append, one-made}

@@ -1,4 +1,5 @@
 -- Both files are read, one after the other.
+-- for: st_files
 use Rattle.std.specs.Prelude.{◌≡◌, true, ℕ, Option, Result, Ok, Err, IfErr, IfOk, List}
 use Rattle.std.proofs.Common.{inr, subst}
 use Rattle.job_ends.specs.Causes.{is_traced}

@@ -1,4 +1,5 @@
 -- What the trace of the job stands for.
+-- for: st_files
 use Rattle.std.specs.Prelude.{◌≡◌, refl, ℕ, true, Option, Some, List, map, slice_get}
 use Rattle.std.proofs.Common.{inl, inr, ap, subst}
 use Rattle.bench_run.specs.InStep.{AreInStep}

@@ -1,4 +1,5 @@
 -- What each event of a run keeps is kept by its scans, turns and rounds.
+-- for: rounds_end_for_their_cause
 use Rattle.std.specs.Prelude.{◌≡◌, refl, ℕ, ℤ, zero, suc, ◌+◌, Bool, true, false, if◌then◌else◌, Option, Some, None, Err, List, [], ◌∷◌, length, slice_get}
 use Rattle.std.specs.List.{AllByRecursion}
 use Rattle.std.proofs.Common.{◌∙◌, ap, subst}

@@ -1,4 +1,5 @@
 -- An event that is made, and a run that goes on.
+-- for: st_files
 use Rattle.std.specs.Prelude.{◌≡◌, refl, ◌-◌, ◌<◌, ◌⊎◌, Bool, true, false, Result, Ok, Err, List, length}
 use Rattle.std.proofs.Common.{◌∙◌, inl, inr, sym, ap, subst}
 use Rattle.std.proofs.lemmas.Bool.{eqb-false}

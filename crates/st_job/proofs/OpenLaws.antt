@@ -1,4 +1,5 @@
 -- Tasks are opened, and the run begins with them.
+-- for: st_files
 use Rattle.std.specs.Prelude.{◌≡◌, refl, ℕ, suc, ◌+◌, ◌<◌, ◌≤◌, true, Result, Ok, List, [], ◌∷◌, ◌++◌, drop, length, map, take}
 use Rattle.std.proofs.Common.{◌∙◌, sym, ap, subst, arith}
 use Rattle.std.proofs.lemmas.List.{append-nil, drop_all, length-append, length-map, map-append, take_all, take_more}

@@ -1,4 +1,5 @@
 -- How a scan ends: it is over, or the run ends in it.
+-- for: st_files
 use Rattle.std.specs.Prelude.{◌≡◌, ℕ, zero, suc, ◌-◌, ◌<◌, Bool, true, false, not, if◌then◌else◌, Some, Ok, Err, List, [], length, slice_get}
 use Rattle.std.proofs.Common.{◌∙◌, sym, ap, arith}
 use Rattle.bench_run.specs.Going.{run_at}

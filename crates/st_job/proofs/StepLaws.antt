@@ -1,4 +1,5 @@
 -- The drives of a run are in step with its history.
+-- for: st_files
 use Rattle.std.specs.Prelude.{◌+◌, List, map}
 use Rattle.bench_run.specs.InStep.{AreInStep}
 use Rattle.bench_run.specs.Run.{Event, Run, a_call, a_cycle, an_end, first_run, made}

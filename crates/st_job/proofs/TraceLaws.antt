@@ -1,4 +1,5 @@
 -- The trace of a run that was written.
+-- for: st_files
 use Rattle.std.specs.Prelude.{◌≡◌, ◌<◌, All, true, false, Result, List, length, map}
 use Rattle.std.proofs.Common.{◌∙◌, sym, ap, subst, arith}
 use Rattle.std.proofs.lemmas.List.{length-map}

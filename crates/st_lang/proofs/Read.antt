@@ -1,4 +1,5 @@
 -- What is read is a program of the text, and a program of the text is read.
+-- for: read_st
 use Rattle.std.proofs.Common.{◌≡◌, ℕ, Option, Some, None, Result, Ok, Err, IfOk, List, refl, sym, ap, subst, ◌∙◌}
 use Rattle.line_text.specs.declared.reader.LineRefused.{LineRefused}
 use Rattle.machine_words.specs.Rules.{refused_by}
@@ -8,7 +9,7 @@ use Rattle.motion_history.specs.declared.refused.TextFault.TheVariants.{Refused,
 use Rattle.motion_history.specs.declared.refused.TextRefused.{TextRefused}
 use Rattle.st_check.specs.Checked.{Checked}
 use Rattle.st_check.specs.Reading.{Outcome, letter, opening, outcome_by, outcome_of, reading_of, run}
-use Rattle.st_lang.specs.Reading.{IsRead, ReadsBy, ReadsSame, SpellTheSame}
+use Rattle.st_lang.specs.Reading.{IsRead, ReadsBy, ReadsSame}
 use Rattle.st_lang.specs.Spelled.{IsStText}
 use Rattle.st_parts.specs.Parts.{Spells}
 use Rattle.st_tokens.specs.Tokens.{tokens_of}

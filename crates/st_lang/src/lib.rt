@@ -4,7 +4,6 @@
 //! Begin with specs/Spelled, then st_check's specs/Reading and st_grammar's specs/Table.
 #![tactic(auto)]
 
-mod fitting;
 mod reading;
 
 pub use reading::read_st;

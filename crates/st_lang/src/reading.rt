@@ -1,14 +1,14 @@
 // Reading tasks in Structured Text.
 
-ghost use Rattle.std.specs.Prelude.{◌≡◌, [], List, IfOk, IsTrue, OnOk, length};
+ghost use Rattle.std.specs.Prelude.{◌≡◌, [], List, IfOk, OnOk, length};
 ghost use Rattle.motion_history.specs.Setup.{IsSetup, Setup};
 ghost use Rattle.st_check.specs.Reading.{reading_of};
+ghost use Rattle.st_check.specs.Told.{IsWhole};
 ghost use Rattle.st_lang.specs.Reading.{IsBuilt, ReadsBy, ReadsSame};
 ghost use Rattle.st_lang.specs.Spelled.{IsStText};
 ghost use Rattle.st_tree.specs.Fitting.{IsProgramOf};
 ghost use Rattle.st_tree.specs.declared.program.Task.{Task};
 
-use crate::fitting::is_program_of;
 use motion_history::{Builder, TextFault};
 use st_build::program_of;
 use st_check::{Told, check_text};
@@ -43,49 +43,34 @@ pub fn read_st(alloc: Global, text: &[u8], config: &mut Builder) -> Result<StPro
 
 // The program that a text is, and the machine with its tasks and blocks.
 fn read(alloc: Global, text: &[u8], machine: Builder) -> (Builder, Result<StProgram, TextFault>)
+    requires tasks { machine.tasks ≡ [] }
     ensures exact { ReadsBy (reading_of machine text.now) result.1 result.0 }
     ensures setup { OnOk result.1 (IsSetup result.0) }
     ensures axes { OnOk result.1 (length result.0.axes ≡ length machine.axes) }
     ensures program { IfOk result.1 (λ p. IsProgramOf result.0 p.tasks.items) }
 {
-    let axes = machine.axes().len();
     let (machine, told) = check_text(alloc, text, machine);
     match told {
         Ok(told) => {
-            let program = built(alloc, &machine, axes, &told);
+            let program = built(alloc, &machine, &told);
             (machine, program)
         }
         Err(fault) => (machine, Err(fault)),
     }
 }
 
-// The trees of what was reported, where the machine is whole with this many axes, and they fit it.
-fn built(alloc: Global, machine: &Builder, axes: usize, told: &Told) -> Result<StProgram, TextFault>
+// The trees of what was reported for a machine.
+fn built(alloc: Global, machine: &Builder, told: &Told) -> Result<StProgram, TextFault>
+    requires { (first : Setup) × IsWhole first machine.now told.now.names.items told.now.parts.items }
     ensures built { IsBuilt told.now result }
     ensures setup { OnOk result (IsSetup machine.now) }
-    ensures axes { OnOk result (length machine.now.axes ≡ axes) }
+    ensures axes { (first : Setup) → IsWhole first machine.now told.now.names.items told.now.parts.items →
+        OnOk result (length machine.now.axes ≡ length first.axes) }
     ensures program { IfOk result (λ p. IsProgramOf machine.now p.tasks.items) }
 {
-    let Ok(program) = program_of(alloc, told.names.as_slice(), told.parts.as_slice()) else {
-        return Err(TextFault::OutOfMemory);
-    };
-    if is_whole(machine, axes) && is_program_of(machine, &program) {
-        Ok(program)
-    } else {
-        Err(TextFault::OutOfMemory)
+    let _blocks = machine.blocks().len();
+    match program_of(alloc, told.names.as_slice(), told.parts.as_slice()) {
+        Ok(program) => Ok(program),
+        Err(_) => Err(TextFault::OutOfMemory),
     }
-}
-
-// Whether a machine is whole and has this many axes.
-fn is_whole(machine: &Builder, axes: usize) -> bool
-    ensures { IsTrue result → IsSetup machine.now × (length machine.now.axes ≡ axes) }
-{
-    machine.axes().len() == axes && has_each(machine)
-}
-
-// Whether a machine has an axis, a task and a block.
-fn has_each(machine: &Builder) -> bool
-    ensures { IsTrue result → IsSetup machine.now }
-{
-    1 <= machine.axes().len() && 1 <= machine.tasks().len() && 1 <= machine.blocks().len()
 }

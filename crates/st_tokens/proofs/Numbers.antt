@@ -1,4 +1,5 @@
 -- A number that stands still where it is too great is as good as the number.
+-- for: number_of
 use Rattle.std.proofs.Common.{◌≡◌, ℕ, ◌+◌, ◌*◌, ◌-◌, List, [], ◌∷◌, arith}
 use Rattle.std.specs.Prelude.{min}
 use Rattle.st_tokens.specs.Numbers.{value_behind}

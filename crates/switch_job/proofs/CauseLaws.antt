@@ -1,4 +1,5 @@
 -- What the course of the job says of its files.
+-- for: switch_files
 use Rattle.std.specs.Prelude.{◌≡◌, ◌⊎◌, ℕ, Option, Some, None, IfSome, Ok, List}
 use Rattle.std.specs.Result.{IsOk, is_ok}
 use Rattle.std.proofs.Common.{ap}

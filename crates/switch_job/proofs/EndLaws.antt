@@ -1,4 +1,5 @@
 -- What the course of the job says of its status.
+-- for: switch_files
 use Rattle.std.specs.Prelude.{◌≡◌, ◌⊎◌, refl, ℕ, true, false, Option, Some, None, Result, Ok, Err, List}
 use Rattle.std.specs.Io.KnownBytes.{Appends}
 use Rattle.std.proofs.Common.{◌∙◌, inl, inr, sym, ap, subst}

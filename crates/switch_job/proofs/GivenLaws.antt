@@ -1,4 +1,5 @@
 -- Both files are read, one after the other.
+-- for: switch_files
 use Rattle.std.specs.Prelude.{◌≡◌, false, ℕ, Option, List}
 use Rattle.std.proofs.Common.{ap, inr, subst, sym}
 use Rattle.job_ends.specs.Causes.{is_fault}

@@ -1,4 +1,5 @@
 -- What a verdict on a trace gives.
+-- for: switch_files
 use Rattle.std.specs.Prelude.{◌≡◌, ◌↔◌, refl, ℕ, Option, Some, None, List, length}
 use Rattle.std.proofs.Common.{◌∙◌, ap, sym}
 use Rattle.cam_switch.specs.declared.switch.Switch.{Switch}

@@ -1,4 +1,5 @@
 -- A text's reading is the switches that it spells.
+-- for: read_switches
 use Rattle.std.proofs.Common.{◌≡◌, refl, ℕ, List, Result, Ok, Err, subst}
 use Rattle.std.specs.Prelude.{IfOk}
 use Rattle.cam_switch.specs.declared.switch.Switch.{Switch}

@@ -1,4 +1,5 @@
 -- A reply leads on.
+-- for: next, answered
 use Rattle.std.proofs.Common.{◌≡◌, ℕ, Bool, true, false, Option, Some, None, List, [], ◌∷◌, ◌++◌, refl, sym, ◌∙◌, subst}
 use Rattle.std.specs.Prelude.{cond, is_some, slice_get}
 use Rattle.std.specs.List.{Contains}

@@ -1,4 +1,5 @@
 -- The calls that a task makes stand in its lines, and each wait stands after one of its block.
+-- for: next, answered
 use Rattle.std.proofs.Common.{◌≡◌, ℕ, zero, suc, ◌==◌, Bool, true, false, ◌||◌, Option, Some, None, List, [], ◌∷◌, ◌++◌, refl, sym, ◌∙◌, ap, subst, append_assoc, inl, inr, arith}
 use Rattle.std.specs.Prelude.{cond, is_some, slice_get, take}
 use Rattle.std.specs.List.{AllByRecursion, Contains}

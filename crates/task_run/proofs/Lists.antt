@@ -1,4 +1,5 @@
 -- Places in lists.
+-- for: open, next, answered
 use Rattle.std.proofs.Common.{◌≡◌, ℕ, ◌+◌, suc, Some, List, [], ◌∷◌, ◌++◌, length, refl, ap, arith}
 use Rattle.std.specs.Prelude.{slice_get}
 use Rattle.std.specs.List.{AllByRecursion}

@@ -1,4 +1,5 @@
 -- A run under way, call by call.
+-- for: run_task
 use Rattle.std.proofs.Common.{◌≡◌, ℕ, ◌<◌, Bool, true, false, ◌||◌, Option, Some, None, List, [], ◌∷◌, ◌++◌, length, refl, sym, ◌∙◌, ap, subst, arith}
 use Rattle.std.specs.Prelude.{cond}
 use Rattle.fb_outputs.specs.declared.inputs.Inputs.{Inputs}

@@ -1,4 +1,5 @@
 -- What a comparison of two values has reported.
+-- for: replay_from
 use Rattle.std.proofs.Common.{rules, ◌≡◌, true, refl, int_eq}
 use Rattle.std.specs.Prelude.{◌==◌, ◌&&◌}
 use Rattle.std.specs.Cmp.{booleans_Decides}

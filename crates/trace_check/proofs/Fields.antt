@@ -1,4 +1,5 @@
 -- The twelve fields of a record by their places.
+-- for: replay_from
 use Rattle.std.proofs.Common.{◌≡◌, ℕ, List, [], ◌∷◌, length, refl, arith}
 use Rattle.std.specs.Prelude.{slice_index_or, slice_set}
 

@@ -1,4 +1,5 @@
 -- The history of a legal trace that was read can be held by version 2.
+-- for: traces_tell_their_history, migrated_traces_are_legal
 use Rattle.std.proofs.Common.{◌≡◌, ℕ, List, [], ◌∷◌, length, map, refl, ap, subst, arith}
 use Rattle.std.specs.List.{AllByRecursion, AllZip}
 use Rattle.std.proofs.lemmas.List.{length-take}

@@ -1,4 +1,5 @@
 -- The records of the machine part, and names.
+-- for: replay_from
 use Rattle.std.proofs.Common.{◌≡◌, ℕ, ◌+◌, Some, length, refl, arith}
 use Rattle.std.specs.Prelude.{slice_get}
 use Rattle.std.proofs.lemmas.List.{length-append, length-map}

@@ -1,4 +1,5 @@
 -- A trace is that of at most one legal history.
+-- for: traces_tell_their_history, migrated_traces_are_legal
 use Rattle.std.proofs.Common.{◌≡◌, ℕ, ◌+◌, List, [], ◌∷◌, map, refl, sym, ◌∙◌, ap, subst}
 use Rattle.motion_history.specs.Entries.{Entry, call, cycle, cycle_count, end_of}
 use Rattle.motion_history.specs.Setup.{Setup}

@@ -1,4 +1,5 @@
 -- The verdict by the first record that differs.
+-- for: check, check_from, replay
 use Rattle.std.proofs.Common.{◌≡◌, ℕ, Some, None, Ok, Err, length, refl, sym, ◌∙◌, ap, subst}
 use Rattle.std.specs.Prelude.{◌↔◌, IfOk, Result}
 use Rattle.motion_kernel.specs.Segments.{SegmentedState, at_opening}

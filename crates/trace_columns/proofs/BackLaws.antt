@@ -1,4 +1,5 @@
 -- What is written of a value is read as this value.
+-- for: columns_are_read_back
 use Rattle.std.specs.Prelude.{◌≡◌, refl, ℕ, zero, suc, ◌/◌, ◌%◌, ◌^◌, ◌<◌, ◌≤◌, ◌==◌, ℤ, pos, negsuc, neg_ℤ, int_le, ◌≤ℤ◌, Bool, true, false, ◌&&◌, Some, decimal, List, slice_index_or}
 use Rattle.std.specs.Fmt.{signed_decimal}
 use Rattle.std.specs.Str.Parse.{digits_value, signed_digits_value}

@@ -1,4 +1,5 @@
 -- Words of hexadecimal digits, by a table.
+-- for: hex_digit_of, hex_word
 use Rattle.std.specs.Prelude.{◌≡◌, refl, ℕ, zero, suc, ◌+◌, ◌-◌, ◌*◌, ◌<◌, ◌≤◌, ◌==◌, ◌&&◌, Bool, true, false, Option, Some, None, [], ◌∷◌, nat_le, cond, slice_index_or}
 use Rattle.std.specs.Option.{unwrap_or}
 use Rattle.std.proofs.Common.{arith, inl, inr}

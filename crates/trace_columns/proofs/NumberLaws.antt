@@ -1,4 +1,5 @@
 -- Numbers as a writer spells them.
+-- for: columns_are_read_back
 use Rattle.std.specs.Prelude.{◌≡◌, refl, ℕ, ◌^◌, ◌-◌, ℤ, pos, neg_ℤ, int_le, Bool, true, false, ◌&&◌, Option, Some, None, Result, Ok, Err, List}
 use Rattle.std.specs.Fmt.{signed_decimal}
 use Rattle.std.specs.Str.{IsUtf8, bytes_eq}

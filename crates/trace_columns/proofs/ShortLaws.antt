@@ -1,4 +1,5 @@
 -- Numbers of few digits, digit by digit.
+-- for: digits_of, eight_digits, short_number_of and others
 use Rattle.std.specs.Prelude.{◌≡◌, refl, ℕ, zero, suc, ◌+◌, ◌-◌, ◌*◌, ◌^◌, ◌<◌, ◌≤◌, ℤ, pos, neg_ℤ, Option, Some, None, IfSome, nat_lt, decimal, List, [], ◌∷◌, length, take, slice_index_or}
 use Rattle.std.specs.Char.{digit_value}
 use Rattle.std.specs.Fmt.{signed_decimal}

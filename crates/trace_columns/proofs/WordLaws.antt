@@ -1,4 +1,5 @@
 -- Eight digits in the bytes of a word.
+-- for: eight_digits, value_of
 use Rattle.std.specs.Prelude.{◌≡◌, refl, ℕ, ◌+◌, ◌-◌, ◌*◌, ◌/◌, ◌%◌, ◌^◌, ◌<◌, ◌≤◌, List, [], ◌∷◌, map}
 use Rattle.std.specs.Char.{digit_value}
 use Rattle.std.specs.Int.{from_le_bytes, w64}

@@ -1,4 +1,5 @@
 -- Each status of the jobs comes of its cause.
+-- for: check_text, check_trace, migrate_text and others
 use Rattle.std.specs.Prelude.{◌≡◌, ◌↔◌, refl, ℕ, true, false, Option, Some, None, Result, Ok, Err, List, length}
 use Rattle.std.proofs.Common.{◌∙◌, ap, sym}
 use Rattle.job_ends.proofs.Refusals.{refused-cause, refused-plan}

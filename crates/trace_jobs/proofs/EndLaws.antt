@@ -1,4 +1,5 @@
 -- How the jobs end, from what their parts did.
+-- for: check_text, check_trace, migrate_text and others
 use Rattle.std.specs.Prelude.{◌≡◌, ◌↔◌, refl, ℕ, Bool, true, false, Option, Some, None, Result, Ok, Err, List, length}
 use Rattle.std.specs.declared.alloc.AllocError.{AllocError}
 use Rattle.std.proofs.Common.{Vec, Global, ◌∙◌, sym, ap, subst}

@@ -1,4 +1,5 @@
 -- The history of a trace is the one that the machine makes of its events.
+-- for: check_text, check_trace, migrate_text and others
 use Rattle.std.specs.Prelude.{◌≡◌, refl, ℕ, ◌+◌, List, [], ◌∷◌, ◌++◌, map}
 use Rattle.std.proofs.Common.{◌∙◌, sym, ap, subst, arith}
 use Rattle.std.proofs.lemmas.List.{append_assoc, append-nil}

@@ -1,4 +1,5 @@
 -- What a trace that was migrated stands for.
+-- for: check_text, check_trace, migrate_text and others
 use Rattle.std.specs.Prelude.{◌≡◌, refl, ℕ, Option, Some, None, Result, Ok, Err, List}
 use Rattle.std.specs.Io.KnownBytes.{Appends}
 use Rattle.std.proofs.Common.{◌∙◌, sym, ap, subst}

@@ -1,4 +1,5 @@
 -- What a comparison of inputs has reported.
+-- for: write_trace
 use Rattle.std.proofs.Common.{rules, ◌≡◌, refl, true, int_eq}
 use Rattle.std.specs.Prelude.{◌==◌, ◌&&◌}
 use Rattle.std.specs.Cmp.{booleans_Decides}

@@ -1,5 +1,6 @@
 -- Moves arrive in time: first the old step is slowed, then the axis speeds up and cruises, then it
 -- brakes onto the target.
+-- for: moves_arrive_in_time
 use Rattle.std.proofs.Common.{◌≡◌, ℕ, zero, suc, ◌+◌, ◌-◌, ◌*◌, ◌/◌, ◌%◌, ◌≤◌, ◌<◌, ℤ, pos, neg_ℤ, ◌<ℤ◌, ◌≤ℤ◌, ◌-ℤ◌, ◌+ℤ◌, unsigned_abs, min, arith, refl, ◌∙◌, sym, ap, inl, inr}
 use Rattle.std.specs.Int.{div_ceil}
 use Rattle.std.proofs.lemmas.Int.{ints, by_lt_z}

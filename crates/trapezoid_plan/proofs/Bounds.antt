@@ -1,4 +1,5 @@
 -- The cycles bound of a move grows with its way and its step.
+-- for: cycles_bounds_grow
 use Rattle.std.proofs.Common.{ℕ, ◌+◌, ◌*◌, ◌/◌, ◌≤◌, ◌<◌, min, unsigned_abs, arith, inl, inr}
 use Rattle.std.specs.Int.{div_ceil}
 use Rattle.std.proofs.lemmas.Bool.{cases_lt}

@@ -1,4 +1,5 @@
 -- A move whose slowed step's way fits heads for its target, and goes on so.
+-- for: moves_head_for_their_targets, moves_that_head_away_brake
 use Rattle.std.proofs.Common.{◌≡◌, ℕ, ◌+◌, ◌-◌, ◌≤◌, ◌<◌, ℤ, pos, neg_ℤ, ◌+ℤ◌, ◌-ℤ◌, unsigned_abs, max, min, arith, refl, sym, inl, inr}
 use Rattle.std.proofs.lemmas.Bool.{cases_lt}
 use Rattle.std.proofs.lemmas.Int.{ints}

@@ -1,4 +1,5 @@
 -- The steps that may follow in whole numbers, and the move step among them.
+-- for: move_step, move_steps_are_greatest, move_steps_are_safe and others
 use Rattle.std.proofs.Common.{◌≡◌, ℕ, ◌+◌, ◌-◌, ◌≤◌, ◌<◌, ℤ, pos, neg_ℤ, ◌<ℤ◌, ◌≤ℤ◌, unsigned_abs, max, min, arith, refl, ◌∙◌, sym, ap, inl, inr}
 use Rattle.std.proofs.lemmas.Int.{ints, by_lt_z}
 use Rattle.motion_numbers.specs.Run.{run_of, reach_of}

@@ -1,4 +1,5 @@
 -- The taken step of a move, in either direction.
+-- for: move_steps_are_safe, moves_head_for_their_targets, moves_that_head_away_brake and others
 use Rattle.std.proofs.Common.{◌≡◌, ℕ, suc, ◌-◌, ◌≤◌, ◌<◌, ℤ, pos, neg_ℤ, ◌-ℤ◌, ◌+ℤ◌, ◌<ℤ◌, ◌≤ℤ◌, unsigned_abs, arith, refl, ◌∙◌, ap, inl, inr}
 use Rattle.std.proofs.lemmas.Int.{ints}
 use Rattle.kin_core.specs.declared.limits.Limits.{Limits}

@@ -29,7 +29,8 @@ from motion_tools.units import Units
 def parser() -> argparse.ArgumentParser:
     """The words of the command line."""
     words = command.parser_of("trace_plot", __doc__, command.STATUSES)
-    words.add_argument("trace", help="a trace of version 1 or 2; - for the standard input")
+    words.add_argument("trace", help="a trace of version 1 or 2, or a table of setpoints, as "
+                                      "c/otg_move.c prints it; - for the standard input")
     words.add_argument("-o", "--output", help="the file to write; left out, the standard output")
     words.add_argument("--html", action="store_true", help="a page in place of an SVG")
     words.add_argument("--dark", action="store_true",
@@ -42,6 +43,8 @@ def parser() -> argparse.ArgumentParser:
                              "switches` writes them: a lane for each")
     words.add_argument("--following", action="store_true",
                         help="a panel of the following error, and the velocity of the drive")
+    words.add_argument("--jerk", action="store_true",
+                        help="a panel of the jerk, the change of acceleration")
     words.add_argument("--bits", action="store_true",
                         help="lanes of the bits of statusword and controlword")
     words.add_argument("--together", metavar="X,Y", action="append", default=[],
@@ -93,8 +96,9 @@ def together_of(given: argparse.Namespace, trace: Trace) -> list[list[str]]:
 def title_of(trace: Trace) -> str:
     """The title of a picture that has none: the axes, and which cycles."""
     names = ", ".join(trace.axes) if len(trace.axes) <= 6 else f"{len(trace.axes)} axes"
+    kind = "Table" if any(axis.is_table for axis in trace.axes.values()) else "Trace"
     last = trace.first + trace.cycles - 1
-    return f"Trace of {names}: " + (
+    return f"{kind} of {names}: " + (
         f"cycles {trace.first} to {last}" if trace.cycles else "no cycle") + (
         ", cut short" if trace.fault else "")
 
@@ -105,7 +109,7 @@ def picture_of(trace: Trace, units: Units, given: argparse.Namespace) -> str:
     switches = None if given.edges is None else read_edges(lines_of(given.edges))
     overlay = trace_of(given, given.overlay) if given.overlay else None
     sheet = Sheet(trace, units, DARK if given.dark else LIGHT, given.width, given.whole_limits,
-                  given.outputs, given.following, given.bits, overlay,
+                  given.outputs, given.following, given.jerk, given.bits, overlay,
                   Path(given.overlay).stem if given.overlay else "", together_of(given, trace))
     return html.page(sheet, title, switches) if given.html else svg.svg(sheet, title, switches)
 

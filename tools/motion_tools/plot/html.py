@@ -9,9 +9,9 @@ from typing import Any, Optional
 from motion_tools.plot.edges import spans as on_spans
 from motion_tools.plot.legend import SHAPES, seen_in, states_seen
 from motion_tools.plot.levels import CONTROLWORD, STATUSWORD, bit_names, runs, seen, signals
-from motion_tools.plot.panels import PANELS, limits_of
-from motion_tools.plot.reader import (AXIS_STATES, FOLLOWING, GROUP_STATES, REPORTED_VELOCITY, Axis,
-                                      Block, Lane, Trace, Words)
+from motion_tools.plot.panels import JERK_HEIGHT, PANELS, limits_of
+from motion_tools.plot.reader import (AXIS_STATES, FOLLOWING, GROUP_STATES, JERK, REPORTED_VELOCITY,
+                                      Axis, Block, Lane, Trace, Words)
 from motion_tools.plot.sheet import Sheet, spans
 from motion_tools.plot.style import DARK, LIGHT, STATE_COLOURS
 from motion_tools.plot.words import told_of
@@ -20,7 +20,7 @@ Switches = dict[str, list[int]]         # the cycles at which each switch turns
 FOLDER = Path(__file__).parent / "page"
 SCRIPTS = ("pen", "curves", "section", "lanes", "cursor", "plane", "together", "events", "moving")
 LINES = (("position", 0), ("velocity", 2), ("acceleration", 4), ("reported", 6),
-         ("following", FOLLOWING), ("reportedVelocity", REPORTED_VELOCITY))
+         ("following", FOLLOWING), ("reportedVelocity", REPORTED_VELOCITY), ("jerk", JERK))
 OF_DRIVE = ("reported", "following", "reportedVelocity")
 FOLLOWING_HEIGHT = 60
 
@@ -59,7 +59,7 @@ def page_data(sheet: Sheet, switches: Switches) -> dict[str, object]:
     return {"first": trace.first, "cycles": trace.cycles, "timeFactor": factor, "timeName": name,
             "whole": sheet.whole, "width": max(owner.lane.width for owner, _ in owners),
             "colours": STATE_COLOURS, "shapes": SHAPES,
-            "legend": sorted(seen_in(trace)) + states_seen(trace),
+            "legend": sorted(seen_in(trace)) + ["jerk"] * sheet.jerk + states_seen(trace),
             "outputs": sheet.outputs, "following": sheet.following, "bits": sheet.words,
             "overlay": sheet.overlay_name, "together": [list(names) for names in sheet.together],
             "edges": [[cycle, name, "off" if place % 2 else "on"]
@@ -103,27 +103,31 @@ def section(sheet: Sheet, owner: Any, states: Sequence[str]) -> dict[str, object
              "blocks": [outputs_of(block, trace.cycles) for block in blocks], "strip": [
         [start, end, *key] for start, end, key in spans(columns, lambda column: (
             states[column[8].bit_length() - 1], column[9]))]}
-    if not hasattr(owner, "increment"):
+    if not isinstance(owner, Axis):
         return {**found, "title": f"Group {owner.name}: {', '.join(owner.members)}", "panels": []}
     told = units.of_axis(owner.name)
+    drawn = [(name, height) for name, _, height in PANELS] + [("jerk", JERK_HEIGHT)] * sheet.jerk
     panels = [{"name": name, "factor": told[name][0], "unit": told[name][1], "height": height,
-               "limits": limits_of(owner, name)} for name, _, height in PANELS]
+               "limits": limits_of(owner, name)} for name, height in drawn]
     if owner.has_reported:
         panels.append({"name": "following", "factor": told["position"][0],
                        "unit": told["position"][1], "height": FOLLOWING_HEIGHT, "limits": []})
     if owner.words:
         found["blocks"] += words_of(owner.words, trace.cycles)
     other = sheet.overlay.axes.get(owner.name) if sheet.overlay else None
-    return {**found, "title": f"Axis {owner.name}", "origin": owner.origin, "panels": panels,
-            "increment": owner.increment, "breaks": breaks(lane), "lines": lines_of(owner),
-            "other": {"width": other.lane.width, "origin": other.origin, "lines": lines_of(other),
+    return {**found, "title": "Setpoints" if owner.is_table else f"Axis {owner.name}",
+            "strip": [] if owner.is_table else found["strip"], "origin": owner.origin,
+            "panels": panels, "increment": owner.increment, "breaks": breaks(lane),
+            "lines": lines_of(owner, sheet.jerk),
+            "other": {"width": other.lane.width, "origin": other.origin,
+                      "lines": lines_of(other, sheet.jerk),
                       "breaks": breaks(other.lane)} if other else None}
 
 
-def lines_of(axis: Axis) -> dict[str, list[list[Optional[int]]]]:
+def lines_of(axis: Axis, with_jerk: bool) -> dict[str, list[list[Optional[int]]]]:
     """The lines of an axis; those of its drive where that reports something."""
     return {name: ends(axis.lane, place) for name, place in LINES
-            if name not in OF_DRIVE or axis.has_reported}
+            if (name not in OF_DRIVE or axis.has_reported) and (name != "jerk" or with_jerk)}
 
 
 def outputs_of(block: Block, cycles: int) -> dict[str, object]:

@@ -48,11 +48,13 @@ def legend(sheet: Sheet) -> list[tuple[Drawer, str]]:
              "within limits": swatch(f'{frame}"{sheet.theme["band"]}"'),
              "beyond": swatch(f'{frame}"{sheet.theme["panel"]}"'),
              "error": swatch(f'{frame}"url(#hatch)"'), **{kind: shape(kind) for kind in KINDS}}
+    if sheet.jerk:
+        drawn["jerk"] = line("jerk")
     if sheet.following:
         drawn["following error"] = line("following")
     if sheet.overlay:
         drawn[sheet.overlay_name] = line("overlay")
-    seen = seen_in(sheet.trace) | {"following error", sheet.overlay_name}
+    seen = seen_in(sheet.trace) | {"jerk", "following error", sheet.overlay_name}
     return [(draw, words) for words, draw in drawn.items() if words in seen] + [
         (swatch(f'{frame}"{STATE_COLOURS[state]}"'), state) for state in states_seen(sheet.trace)]
 
@@ -62,7 +64,8 @@ def seen_in(trace: Trace) -> set[str]:
     axes = trace.axes.values()
     owners: list[Union[Axis, Group]] = [*axes, *trace.groups.values()]
     columns = [column for owner in owners for column in owner.lane.columns]
-    seen = {"setpoint", "velocity", "acceleration", "limit", "within limits", "beyond"}
+    seen = {"setpoint", "velocity", "acceleration"}
+    seen |= {"limit", "within limits", "beyond"} if not all(axis.is_table for axis in axes) else set()
     seen |= {kind for owner in owners for _, kind, *_ in owner.marks.in_order()}
     seen |= {"reported by the drive"} if any(axis.has_reported for axis in axes) else set()
     seen |= {"not driven"} if any(column[10] & LOOSE for column in columns) else set()
@@ -73,7 +76,8 @@ def states_seen(trace: Trace) -> list[str]:
     """The states of the picture, of groups and of axes, in the order of the standard's names."""
     seen = []
     for names, lanes in ((GROUP_STATES, [group.lane for group in trace.groups.values()]),
-                         (AXIS_STATES, [axis.lane for axis in trace.axes.values()])):
+                         (AXIS_STATES, [axis.lane for axis in trace.axes.values()
+                                        if not axis.is_table])):
         bits = 0
         for lane in lanes:
             for column in lane.columns:

@@ -11,6 +11,7 @@ from motion_tools.plot.style import num, number_text, ticks, view
 Limit = tuple[str, str, int, int]           # the names of a least and a greatest value, and both
 GAP = 8
 PANELS = (("position", 0, 120), ("velocity", 2, 84), ("acceleration", 4, 84))
+JERK_HEIGHT = 84
 
 
 def draw_panel(sheet: Sheet, axis: Axis, columns: Columns, name: str, place: int,
@@ -58,7 +59,7 @@ def overlay_values(sheet: Sheet, axis: Axis, place: int) -> list[int]:
 
 def limits_of(axis: Axis, name: str) -> list[Limit]:
     """The limits of a panel, from within: their names with the least and the greatest value."""
-    if name == "following":
+    if axis.is_table or name in ("following", "jerk"):
         return []
     if name == "position":
         return [("lo", "hi", axis.lo, axis.hi)]

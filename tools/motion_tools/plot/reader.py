@@ -4,8 +4,13 @@ A trace is read once, as a stream, by motion_tools.trace, and what is kept of it
 its length: each axis has a limited number of columns, each with the least and greatest values of
 its cycles. All numbers are integers in an axis's internal units, per cycle. A text that is no trace
 raises TraceError.
+
+A table of setpoints, as the programs of the trajectory generator print it (c/otg_move.c), is taken as a
+trace of one axis that has no limits, states and calls.
 """
 
+import itertools
+import re
 from collections.abc import Iterable, Sequence
 from dataclasses import dataclass, field
 from typing import Any, Optional, Union
@@ -22,7 +27,9 @@ GROUP_STATES = ("GroupDisabled", "GroupStandby", "GroupHoming", "GroupMoving", "
 RESULTS = (("E", "Error"), ("C", "CommandAborted"), ("D", "Done"))
 MARKS = 256
 BROKEN, LOOSE, MOVED = 1, 2, 4  # the setpoint begins anew; the axis isn't driven; a Home moved both
-FOLLOWING, REPORTED_VELOCITY = 11, 13   # where a column has the least of these
+FOLLOWING, REPORTED_VELOCITY, JERK = 11, 13, 15     # where a column has the least of these
+TABLE = "cycle,position,step,change,jerk"           # the first line of a table of setpoints
+TABLE_ROW = re.compile(r"([1-9][0-9]{0,9}),(-?[0-9]{1,19})(?:,-?[0-9]{1,20}){3}")
 Values = Sequence[Optional[int]]
 
 
@@ -32,8 +39,8 @@ class Lane:
 
     A column is a list: the least and greatest position, velocity, acceleration and reported place
     of its cycles, the states seen as bits, the greatest ErrorID, how the lines go on, as bits of
-    BROKEN, LOOSE and MOVED, and the least and greatest following error and reported velocity. A
-    value is None where there is none.
+    BROKEN, LOOSE and MOVED, and the least and greatest following error, reported velocity and jerk.
+    A value is None where there is none.
     """
 
     limit: int
@@ -41,14 +48,14 @@ class Lane:
     columns: list[list[Any]] = field(default_factory=list)
 
     def add(self, place: int, values: Values, state: int, error: int, breaks: int = 0,
-            drive: Values = (None, None)) -> None:
+            more: Values = (None, None, None)) -> None:
         """Adds the cycle at a place counted from 0, with its position, velocity, acceleration and
-        reported place, and what is reckoned of its drive: the following error and the velocity; the
-        places come in order, none left out."""
+        reported place, and with the following error, the velocity that is reported and the jerk;
+        the places come in order, none left out."""
         while place // self.width >= self.limit:
             self.width, self.columns = self.width * 2, paired(self.columns)
         new = [*(value for value in values for _ in range(2)), state, error, breaks,
-               *(value for value in drive for _ in range(2))]
+               *(value for value in more for _ in range(2))]
         if place // self.width == len(self.columns):
             self.columns.append(new)
         else:
@@ -57,7 +64,7 @@ class Lane:
 
 def join(column: list[Any], other: list[Any]) -> None:
     """Takes another column into one."""
-    for least in (0, 2, 4, 6, FOLLOWING, REPORTED_VELOCITY):
+    for least in (0, 2, 4, 6, FOLLOWING, REPORTED_VELOCITY, JERK):
         if other[least] is None:
             continue
         if column[least] is None or other[least] < column[least]:
@@ -126,6 +133,8 @@ class Axis:
     marks: Marks = field(default_factory=Marks)
     has_home: bool = False
     has_reported: bool = False
+    is_table: bool = False                      # it has no limits, states and calls
+    acceleration: int = 0                       # in the cycle before
     place: Optional[int] = None                 # that the drive reported in the row before
     words: Optional["Words"] = None             # the bits of its words, where they are asked for
 
@@ -135,10 +144,15 @@ class Axis:
         breaks = MOVED * self.motion.moved | LOOSE * (not row.driven) | BROKEN * (velocity is None)
         return velocity, acceleration, breaks
 
+    def jerk(self, acceleration: Optional[int]) -> Optional[int]:
+        """The change of acceleration in a row; None where there is no acceleration."""
+        last, self.acceleration = self.acceleration, acceleration or 0
+        return None if acceleration is None else acceleration - last
+
     def reported_place(self, row: Row) -> int:
         """The place that the drive reported, in internal units. Version 1 has it in increments,
         without the offset of a Home: there it is taken of axes without a Home alone."""
-        if row.place is None and self.has_home:
+        if self.is_table or (row.place is None and self.has_home):
             return row.setpoint
         self.has_reported = True
         return row.actual * self.increment if row.place is None else row.place
@@ -277,11 +291,11 @@ class Trace:
         if self.cycle == self.first:
             axis.origin = row.setpoint if breaks else before
         place = axis.reported_place(row)
-        drive = axis.drive(before, place, breaks)
+        more = (*axis.drive(before, place, breaks), axis.jerk(acceleration))
         if self.shown():
             values = (row.setpoint, velocity, acceleration, place)
             axis.lane.add(self.cycle - self.first, values, AXIS_BITS[row.state], row.error, breaks,
-                          drive)
+                          more)
             if axis.words:
                 axis.words.show(self.cycle - self.first, row)
 
@@ -294,10 +308,14 @@ def axis_of(axis: traces.Axis, limit: int, motion: Motion) -> Axis:
 
 def read_trace(lines: Iterable[str], first: int = 1, last: Optional[int] = None, limit: int = 2048,
                words: bool = False) -> Trace:
-    """The trace of a text's lines, with the cycles from `first` to `last` in at most `limit`
-    columns, with the bits of words where they are asked for. After its machine it may be faulty:
-    then it has what was read until there, and the fault."""
-    source = traces.Trace(lines)
+    """The trace of a text's lines, or of a table of setpoints, with the cycles from `first` to
+    `last` in at most `limit` columns, with the bits of words where they are asked for. After its
+    machine it may be faulty: then it has what was read until there, and the fault."""
+    lines = iter(lines)
+    top = list(itertools.islice(lines, 1))
+    if top and top[0].rstrip("\r\n") == TABLE:
+        return read_table(lines, first, last, limit)
+    source = traces.Trace(itertools.chain(top, lines))
     trace = Trace(source.machine, first, last, limit, words)
     try:
         for cycle in source.cycles():
@@ -305,6 +323,25 @@ def read_trace(lines: Iterable[str], first: int = 1, last: Optional[int] = None,
     except TraceError as fault:
         trace.fault = fault
     trace.end(source.last_calls)
+    return trace
+
+
+def read_table(lines: Iterable[str], first: int, last: Optional[int], limit: int) -> Trace:
+    """The trace of a table's rows, whose axis rests at 0 before them."""
+    axis = traces.Axis("setpoints", 0, 0, 0, 0, 0, 1, 0, True)
+    trace = Trace(Machine(2, "bench", 0, 0, [axis], [], [], [], []), first, last, limit)
+    trace.axes[axis.name].is_table = True
+    try:
+        for number, line in enumerate(lines, 2):
+            found = TABLE_ROW.fullmatch(line.rstrip("\r\n"))
+            if not found:
+                raise TraceError(number, f"no row as {TABLE}")
+            place = int(found[2])
+            row = Row(axis.name, 0, place, 8, "DiscreteMotion", 0, True, place, 0, place, place)
+            trace.add_cycle(Cycle(int(found[1]), [], [], {axis.name: row}, {}, number))
+    except TraceError as fault:
+        trace.fault = fault
+    trace.end([])
     return trace
 
 

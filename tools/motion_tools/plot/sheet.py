@@ -23,6 +23,7 @@ class Sheet:
     whole: bool
     outputs: bool = False
     following: bool = False                     # the following error and the reported velocity
+    jerk: bool = False                          # the change of acceleration
     words: bool = False                         # the bits of statusword and controlword
     overlay: Optional[Trace] = None             # a second trace, and its name
     overlay_name: str = ""

@@ -17,13 +17,13 @@ TOGETHER = (("#0072b2", ""), ("#d55e00", "7 3"), ("#009e73", "2 2"), ("#cc79a7",
 LIGHT = {"page": "#ffffff", "panel": "#e9ebee", "band": "#f7fbff", "outer": "#f0f3f7",
          "ink": "#1b1f24", "muted": "#525a66", "grid": "#d3d9e0", "limit": "#6b7380",
          "position": "#0072b2", "reported": "#d55e00", "velocity": "#007a5a",
-         "acceleration": "#9c3f78", "overlay": "#8a6d1f",
+         "acceleration": "#9c3f78", "jerk": "#525a66", "overlay": "#8a6d1f",
          "error": "#d55e00", "Call": "#1b1f24", "Done": "#007a5a",
          "CommandAborted": "#b87700", "Error": "#c44e00"}
 DARK = {"page": "#14181d", "panel": "#2a2f37", "band": "#171d25", "outer": "#20262e",
         "ink": "#e8eaed", "muted": "#aab2bd", "grid": "#343b45", "limit": "#8b95a3",
         "position": "#56b4e9", "reported": "#e69f00", "velocity": "#2fc99a",
-        "acceleration": "#e19cc4", "overlay": "#c9b26a",
+        "acceleration": "#e19cc4", "jerk": "#aab2bd", "overlay": "#c9b26a",
         "error": "#ff7a33", "Call": "#e8eaed", "Done": "#2fc99a",
         "CommandAborted": "#f0b93a", "Error": "#ff7a33"}
 

@@ -8,8 +8,8 @@ from motion_tools.plot.edges import draw_edges
 from motion_tools.plot.legend import KINDS, draw_head, draw_shape
 from motion_tools.plot.lines import Columns
 from motion_tools.plot.outputs import draw_outputs, draw_words
-from motion_tools.plot.panels import PANELS, draw_panel, draw_time
-from motion_tools.plot.reader import AXIS_STATES, FOLLOWING, GROUP_STATES, Axis, Group
+from motion_tools.plot.panels import JERK_HEIGHT, PANELS, draw_panel, draw_time
+from motion_tools.plot.reader import AXIS_STATES, FOLLOWING, GROUP_STATES, JERK, Axis, Group
 from motion_tools.plot.sheet import LEFT, Sheet, spans, thinned
 from motion_tools.plot.style import STATE_COLOURS, num
 from motion_tools.plot.together import draw_together, together_style
@@ -30,7 +30,7 @@ def svg(sheet: Sheet, title: str, switches: Optional[dict[str, list[int]]] = Non
     for group in trace.groups.values():
         draw_section(sheet, group, GROUP_STATES, f"Group {group.name}: {', '.join(group.members)}")
     for axis in trace.axes.values():
-        draw_section(sheet, axis, AXIS_STATES, f"Axis {axis.name}")
+        draw_section(sheet, axis, AXIS_STATES, "" if axis.is_table else f"Axis {axis.name}")
     if switches is not None:
         draw_edges(sheet, switches)
         draw_time(sheet)
@@ -75,7 +75,8 @@ def more_style(sheet: Sheet) -> str:
                if sheet.overlay else "")
     following = (f".following{{stroke:{sheet.theme['reported']};stroke-width:1.6}}"
                  if sheet.following else "")
-    return overlay + following + (together_style() if sheet.together else "")
+    jerk = f".jerk{{stroke:{sheet.theme['jerk']};stroke-width:1.6}}" if sheet.jerk else ""
+    return overlay + following + jerk + (together_style() if sheet.together else "")
 
 
 def hatching(theme: dict[str, str]) -> str:
@@ -88,13 +89,15 @@ def hatching(theme: dict[str, str]) -> str:
 
 def draw_section(sheet: Sheet, owner: Union[Axis, Group], states: Sequence[str],
                  title: str) -> None:
-    """What is shown of an axis or a group, its time axis at the bottom."""
-    sheet.y += 26
-    sheet.text(16, sheet.y, title, ' style="font-size:14px;font-weight:bold"')
-    sheet.y += 8
-    columns = thinned(sheet, owner.lane)
-    guides = draw_marks(sheet, owner)
-    draw_strip(sheet, columns, states)
+    """What is shown of an axis or a group, its time axis at the bottom; of one without a title its
+    panels alone."""
+    columns, guides = thinned(sheet, owner.lane), []
+    if title:
+        sheet.y += 26
+        sheet.text(16, sheet.y, title, ' style="font-size:14px;font-weight:bold"')
+        sheet.y += 8
+        guides = draw_marks(sheet, owner)
+        draw_strip(sheet, columns, states)
     top = sheet.y
     if sheet.outputs:
         blocks = sheet.trace.blocks.values()
@@ -102,6 +105,8 @@ def draw_section(sheet: Sheet, owner: Union[Axis, Group], states: Sequence[str],
     if isinstance(owner, Axis):
         for name, place, height in PANELS:
             draw_panel(sheet, owner, columns, name, place, height)
+        if sheet.jerk:
+            draw_panel(sheet, owner, columns, "jerk", JERK, JERK_HEIGHT)
         if sheet.following and owner.has_reported:
             draw_panel(sheet, owner, columns, "following", FOLLOWING, 60)
         if owner.words:

@@ -18,6 +18,8 @@ def told_of(trace: Trace, units: Units, owner: Union[Axis, Group], states: Seque
     parts = [f"Cycles {trace.first} to {last}."]
     if isinstance(owner, Axis):
         parts.append(setpoints(units, owner))
+    if isinstance(owner, Axis) and owner.is_table:
+        return " ".join(parts)
     parts.append(f"States: {listed(states_told(trace, owner, states))}.")
     calls = [f"after cycle {cycles} {told}" for cycles, _, _, _, told in owner.marks.in_order()]
     parts.append(f"Calls: {listed(calls)}." if calls else "No calls.")

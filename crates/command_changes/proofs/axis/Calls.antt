@@ -1,31 +1,47 @@
--- A call makes of an axis's commands the changes that are reported.
-use Rattle.std.specs.Prelude.{◌≡◌, refl, ℕ, Bool, true, false, Option, Some, None, List, [], ◌∷◌}
-use Rattle.std.proofs.Common.{◌∙◌, ap, sym}
-use Rattle.axis_core.specs.Calls.{axis_without_owner, core_after_admission, core_after_command, core_after_joining, core_after_power, core_after_verdict, core_with_queued, queue_in}
+-- What a call changes of the commands of an axis, and what becomes of the active one.
+-- for: axis_fates_are_told, axis_changes_are_made
+use Rattle.std.specs.Prelude.{◌≡◌, refl, ℕ, Bool, true, false, Option, Some, None, List, [], ◌∷◌, ℤ, if◌then◌else◌}
+use Rattle.std.proofs.Common.{subst, ◌∙◌, ap, sym, arith}
+use Rattle.axis_core.specs.Calls.{axis_without_owner, core_after_admission, core_after_command, core_after_disabling, core_after_joining, core_after_leaving, core_after_power, core_after_verdict, core_with_queued, queue_in}
 use Rattle.axis_core.specs.Cores.{Core, axis_under, axis_under_by, core_after_error}
-use Rattle.axis_core.specs.Owners.{core_without_owner}
+use Rattle.axis_core.specs.Owners.{core_without_owner, owner_brought, owner_brought_by}
 use Rattle.axis_core.specs.Refusals.{Asked, refusal_of}
 use Rattle.axis_core.specs.blocks.Halts.{hold_by}
 use Rattle.axis_core.specs.blocks.Moves.{known_target_of, with_target}
+use Rattle.axis_core.specs.blocks.Power.{axis_with_wish}
 use Rattle.axis_core.specs.blocks.Path.{axis_on_path}
 use Rattle.axis_core.specs.declared.reason.Reason.{Reason}
 use Rattle.axis_state.specs.States.{is_error_stop}
 use Rattle.buffer_modes.specs.Queue.{is_active_at_once}
 use Rattle.buffer_modes.specs.declared.reset.PendingReset.{PendingReset}
-use Rattle.command_core.specs.Changes as change
-use Rattle.command_core.specs.Changes.{Change, all_changed, holds, joins, replaced}
-use Rattle.command_core.specs.CommandState as command_state
+use Rattle.command_core.specs.Changes.{Change, all_changed, holds, joins, replaced, resets, awaits, ends, AllFit}
 use Rattle.command_core.specs.CommandState.{CommandState}
 use Rattle.command_core.specs.Laws.{AreInOrder}
 use Rattle.command_pool.specs.Waiting.{last_of}
-use Rattle.command_pool.specs.declared.ending.Finish.TheVariants as finish
 use Rattle.command_pool.specs.declared.kind.BlockKind.{BlockKind}
-use Rattle.command_pool.specs.declared.kind.BlockKind.TheVariants as kind
 use Rattle.command_pool.specs.declared.wanted.Wanted.{Wanted}
 use Rattle.command_changes.specs.Failing.{failing}
 use Rattle.command_changes.specs.Axis.{admitted_changes, asked_changes, command_state_of, command_changes, is_stop, joined_changes, power_changes}
-use Rattle.command_changes.proofs.Alike.{same_reset}
-use Rattle.command_changes.proofs.Choices.{either}
+use Rattle.command_changes.proofs.Choices.{either, by_if}
+use Rattle.axis_core.specs.declared.axis.Axis.{Axis}
+use Rattle.buffer_modes.specs.Owners.{owner_count, IsSame}
+use Rattle.command_core.specs.Calls.{IsCall}
+use Rattle.buffer_modes.proofs.Owners.{nobody}
+use Rattle.axis_core.specs.Fates.{admitted_fate, asked_fate, command_fate, joined_fate, power_fate}
+use Rattle.axis_core.specs.blocks.Gear.{velocity_command}
+use Rattle.buffer_modes.specs.Fates.{Fate, goes_on}
+use Rattle.buffer_modes.specs.Laws.{AreTakenAway}
+use Rattle.axis_core.specs.AxisKept.{IsCoreKept}
+use Rattle.axis_core.specs.Demands.{IsMade, asked_in}
+use Rattle.axis_core.specs.Kept.{MayAdmit}
+use Rattle.axis_core.proofs.MayAdmit.{may-admit}
+use Rattle.command_core.specs.Changes as change
+use Rattle.command_core.specs.CommandState as command_state
+use Rattle.command_pool.specs.declared.ending.Finish.TheVariants as finish
+use Rattle.command_pool.specs.declared.kind.BlockKind.TheVariants as kind
+use Rattle.buffer_modes.specs.Fates as fates
+use Rattle.command_changes.proofs.Alike.{Called, Cycled, same_reset}
+use Rattle.command_changes.proofs.Fates.{single}
 
 -- these changes lead from one core to another
 abbrev pub Makes : Core → List Change → Core → Type 0
@@ -40,6 +56,24 @@ pub failed_makes : (n : ℕ) (c : Core) → Makes c (failing n) (core_after_erro
 unfolding core_after_error
 failed_makes n c = refl
 
+-- what a call makes of the commands
+abbrev Calls : Core → Option ℕ → Fate → List Change → Core → Type 0
+Calls c owner f xs d = Called (command_state_of c) owner f xs (command_state_of d)
+
+left_called : (w : Wanted) (c d : Core) → Makes c (replaced finish.Aborted (Some w) [] ∷ holds false ∷ []) d → w.owner ≡ None →
+    Calls c None (fates.replaced finish.Aborted c.axis.active (Some w)) (replaced finish.Aborted (Some w) [] ∷ holds false ∷ []) d
+left_called w c d made nobodys = record {
+  makes = made;
+  brings = λ k. let z = nobody k in let o = ap (owner_count k) nobodys in omega arith;
+  call = tt;
+  fated = single (replaced finish.Aborted (Some w) []) (holds false ∷ []) (command_state_of c) ((λ d. refl), tt);
+}
+
+with_brings : (x : BlockKind) (t : Option ℤ) (w : Wanted) → owner_brought_by x (with_target t w) ≡ owner_brought_by x w
+with_brings kind.GearOut t w = refl
+with_brings kind.CamOut t w = refl
+with_brings _ t w = refl
+
 module _ (order : AreInOrder) where
   -- a command that is active at once
   entered_makes : (w : Wanted) (c : Core) → is_active_at_once (queue_in c) w ≡ true →
@@ -50,32 +84,54 @@ module _ (order : AreInOrder) where
       ap (λ o. record after { active = Some w; hold = o }) (holder w.kind w)
       ∙ ap (λ o. record after { active = o; hold = change.hold_by (is_stop w.kind) o }) (sym (order.at_once w (command_state_of c) h))
 
-  joined_makes : (w : Wanted) (c : Core) → Makes c (joined_changes w c) (core_after_joining w c)
-  joined_makes w c = either (Makes c) (is_active_at_once (queue_in c) w) _ _ _ _ (λ h. entered_makes w c h) (λ h. refl)
+  joined_called : (w : Wanted) (c : Core) → Calls c w.owner (joined_fate w c) (joined_changes w c) (core_after_joining w c)
+  joined_called w c =
+      let s : CommandState = command_state_of c in
+      either (Calls c w.owner (joined_fate w c)) (is_active_at_once (queue_in c) w) (joins w ∷ holds (is_stop w.kind) ∷ []) (joins w ∷ []) _ _
+      (λ h. record { makes = entered_makes w c h; brings = λ k. omega arith; call = tt; fated = single (joins w) (holds (is_stop w.kind) ∷ []) s ((λ d. refl), tt) })
+      (λ h. record { makes = refl; brings = λ k. omega arith; call = tt; fated = single (joins w) [] s tt })
 
-  admitted_makes : (k : BlockKind) (w : Wanted) (c : Core) → Makes c (admitted_changes k w c) (core_after_admission k w c)
+  admitted_called : (k : BlockKind) (w : Wanted) (c : Core) → Calls c (owner_brought_by k w) (admitted_fate k w c) (admitted_changes k w c) (core_after_admission k w c)
   unfolding axis_under_by
-  admitted_makes kind.Reset w c = by c.axis.reset refl
+  admitted_called kind.Reset w c =
+      record { makes = by c.axis.reset refl; brings = λ k. omega arith; call = tt; fated = single (awaits w.owner) [] (command_state_of c) tt }
     where
       by : (o : Option PendingReset) → c.axis.reset ≡ o → Makes c (admitted_changes kind.Reset w c) (core_after_admission kind.Reset w c)
       by None e = rw e refl
       by (Some p) e = rw e refl
-  admitted_makes kind.GearOut w c = refl
-  admitted_makes kind.CamOut w c = refl
-  admitted_makes _ w c = joined_makes w c
+  admitted_called kind.GearOut w c = left_called (velocity_command w c.axis) c (core_after_leaving w c) refl refl
+  admitted_called kind.CamOut w c = left_called (velocity_command w c.axis) c (core_after_leaving w c) refl refl
+  admitted_called _ w c = joined_called w c
 
-  asked_makes : (r : Option Reason) (w : Wanted) (c : Core) → Makes c (asked_changes r w c) (core_after_verdict r w c)
-  asked_makes None w c = admitted_makes w.kind (with_target (known_target_of c.axis (last_of c.waiting) w) w) c
-  asked_makes (Some reason) w c = refl
+  asked_called : (r : Option Reason) (w : Wanted) (c : Core) → Calls c (owner_brought r w) (asked_fate r w c) (asked_changes r w c) (core_after_verdict r w c)
+  asked_called None w c =
+      let target = known_target_of c.axis (last_of c.waiting) w in
+      let v = with_target target w in
+      subst (λ o. Calls c o (admitted_fate w.kind v c) (admitted_changes w.kind v c) (core_after_admission w.kind v c)) (with_brings w.kind target w) (admitted_called w.kind v c)
+  asked_called (Some reason) w c = record { makes = refl; brings = λ k. let z = nobody k in omega arith; call = tt; fated = record { ends = refl; begins = refl } }
 
-  pub command_makes : (q : Asked) (c : Core) → Makes c (command_changes q c) (core_after_command q c)
-  unfolding command_changes core_after_command
-  command_makes q c = asked_makes (refusal_of q) q.wanted c
+  pub command_called : (q : Asked) (c : Core) → Calls c (owner_brought (refusal_of q) q.wanted) (command_fate q c) (command_changes q c) (core_after_command q c)
+  unfolding command_changes core_after_command command_fate
+  command_called q c = asked_called (refusal_of q) q.wanted c
 
-pub power_makes : (enable : Bool) (c : Core) → Makes c (power_changes enable c) (core_after_power enable c)
-unfolding power_changes core_after_power
-power_makes true c = refl
-power_makes false c = either (Makes c) (is_error_stop c.axis.state) [] (replaced finish.Aborted None [] ∷ holds false ∷ []) _ _ (λ h. refl) (λ h. refl)
+pub power_cycles : (enable : Bool) (c : Core) → Cycled (command_state_of c) (power_fate enable c) (power_changes enable c) (command_state_of (core_after_power enable c))
+unfolding power_fate power_changes core_after_power
+power_cycles true c = record { makes = refl; none = tt; fated = record { ends = refl; begins = refl } }
+power_cycles false c = by (is_error_stop c.axis.state)
+  where
+    by : (b : Bool) → Cycled (command_state_of c) (if b then goes_on else fates.replaced finish.Aborted c.axis.active None)
+        (if b then [] else replaced finish.Aborted None [] ∷ holds false ∷ []) (command_state_of (if b then record c { axis = axis_with_wish false c.axis } else core_after_disabling (record c { axis = axis_with_wish false c.axis })))
+    by true = record { makes = refl; none = tt; fated = record { ends = refl; begins = refl } }
+    by false = record {
+      makes = refl;
+      none = ((refl, refl), (tt, tt));
+      fated = single (replaced finish.Aborted None []) (holds false ∷ []) (command_state_of c) ((λ d. refl), tt);
+    }
+
+pub power_call : (enable : Bool) (c : Core) → IsCall (power_changes enable c)
+unfolding power_changes
+power_call true c = tt
+power_call false c = by_if IsCall (is_error_stop c.axis.state) [] _ (λ h. tt) (λ h. tt)
 
 -- an owner that is taken away
 pub detach_makes : (owner : ℕ) (c : Core) → command_state_of (core_without_owner owner c) ≡ command_state.disowned owner (command_state_of c)
@@ -86,3 +142,29 @@ detach_makes owner c = rw (same_reset owner c.axis.reset) refl
 pub path_makes : (on : Bool) (c : Core) → command_state_of (record c { axis = axis_on_path on c.axis }) ≡ command_state_of c
 unfolding axis_on_path
 path_makes on c = refl
+
+pub detach_fated : AreTakenAway → (owner : ℕ) (a : Axis) → IsSame a.active (axis_without_owner owner a).active
+unfolding axis_without_owner
+detach_fated taken owner a = taken.same owner a.active
+
+pub path_fated : (on : Bool) (a : Axis) → (axis_on_path on a).active ≡ a.active
+unfolding axis_on_path
+path_fated on a = refl
+
+-- a command finds its place
+admitted_fits : (k : BlockKind) (w : Wanted) (c : Core) → MayAdmit k w c → AllFit (admitted_changes k w c) (command_state_of c)
+admitted_fits kind.Reset w c m = (tt, tt)
+admitted_fits kind.GearOut w c m = (omega arith, (tt, tt))
+admitted_fits kind.CamOut w c m = (omega arith, (tt, tt))
+admitted_fits _ w c m =
+    by_if (λ (xs : List Change). AllFit xs (command_state_of c)) (is_active_at_once (queue_in c) w) _ _ (λ h. (m.place, (tt, tt))) (λ h. (m.place, tt))
+
+pub command_fits : (c : Core) (number : ℕ) (w : Wanted) (jerk : ℤ) (held : Bool) (tables : ℕ) → IsCoreKept c → IsMade w →
+    AllFit (command_changes (asked_in c number w jerk held tables) c) (command_state_of c)
+unfolding command_changes
+command_fits c number w jerk held tables k m =
+    elim (refusal_of (asked_in c number w jerk held tables)) as
+    (λ r. refusal_of (asked_in c number w jerk held tables) ≡ r → AllFit (asked_changes r w c) (command_state_of c)) [
+      | None ↦ λ h. admitted_fits w.kind (with_target (known_target_of c.axis (last_of c.waiting) w) w) c (may-admit c number w jerk held tables k m h)
+      | Some r ↦ λ h. tt
+    ] refl

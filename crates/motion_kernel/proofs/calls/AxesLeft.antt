@@ -1,4 +1,5 @@
 -- What a call leaves of each axis.
+-- for: rows_are_counted
 use Rattle.std.specs.Prelude.{refl, ℕ, zero, suc, Bool, true, false, is_some, Option, Some, None, Result, List, [], ◌∷◌, map, slice_get, slice_set}
 use Rattle.std.proofs.Common.{◌∙◌}
 use Rattle.axis_core.specs.Along.{KeepsDefinition}

@@ -1,4 +1,5 @@
 -- Axes that go on their group's path, or leave it.
+-- for: owners_have_blocks
 use Rattle.std.specs.Prelude.{◌≡◌, refl, ℕ, zero, suc, ◌+◌, ◌<◌, Bool, true, false, List, [], ◌∷◌, length, drop, slice_set, slice_index_or}
 use Rattle.std.proofs.Common.{arith, ap, ◌∙◌}
 use Rattle.axis_core.specs.blocks.Path.{axis_on_path, is_on_path}

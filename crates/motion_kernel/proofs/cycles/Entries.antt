@@ -1,4 +1,5 @@
 -- A cycle as an entry of a history.
+-- for: cycle
 use Rattle.std.specs.Prelude.{◌≡◌, ℕ, List, length}
 use Rattle.std.specs.List.{All}
 use Rattle.std.proofs.Common.{ap, sym, subst}

@@ -1,4 +1,5 @@
 -- The rows of a cycle: one for each axis and each group, which show the answers of the drives.
+-- for: rows_are_counted, cycle
 use Rattle.std.specs.Prelude.{◌≡◌, refl, ℕ, zero, suc, ◌+◌, ◌≤◌, List, [], ◌∷◌, ◌++◌, length, take}
 use Rattle.std.proofs.Common.{arith, ap, sym, ◌∙◌}
 use Rattle.std.proofs.lemmas.List.{length-set, length_push, map-append, take_more, take_all}

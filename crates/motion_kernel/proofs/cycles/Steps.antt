@@ -1,4 +1,5 @@
 -- The groups and the axes of a cycle, one after another.
+-- for: cycle
 use Rattle.std.specs.Prelude.{◌≡◌, refl, ℕ, suc, ◌+◌, [], List, length, map, slice_get, ℤ}
 use Rattle.std.proofs.Common.{arith, ap, ◌∙◌}
 use Rattle.axis_core.specs.declared.axis.Axis.{Axis}

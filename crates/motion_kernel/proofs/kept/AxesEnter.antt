@@ -1,4 +1,5 @@
 -- A machine stays kept by a command of a group that leads its axes on its path.
+-- for: machines_stay_kept, call, cycle and others
 use Rattle.std.specs.Prelude.{◌≡◌, refl, ℕ, ◌<◌, ℤ, Bool, true, false, Option, Some, None, is_some, Ok, length, if◌then◌else◌}
 use Rattle.std.specs.Ordering.{int_eq}
 use Rattle.std.proofs.Common.{arith, ap, sym, subst, ◌∙◌, inl, inr}

@@ -1,4 +1,5 @@
 -- A machine stays kept by a GroupDisable, by which a group's axes leave its path.
+-- for: machines_stay_kept, call, cycle and others
 use Rattle.std.specs.Prelude.{◌≡◌, refl, ℕ, ◌<◌, ℤ, true, false, not, Option, Some, None, is_some, Ok, length}
 use Rattle.std.proofs.Common.{sym, subst, ◌∙◌, inl, inr}
 use Rattle.std.proofs.lemmas.Bool.{and_parts, cases_Bool}

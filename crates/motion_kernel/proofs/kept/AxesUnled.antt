@@ -1,4 +1,5 @@
 -- A machine stays kept by a command of a group that leads its axes nowhere.
+-- for: machines_stay_kept, call, cycle and others
 use Rattle.std.specs.Prelude.{◌≡◌, refl, ℕ, ◌<◌, ℤ, true, false, Option, Some, None, is_some, Ok, length, map, if◌then◌else◌}
 use Rattle.std.proofs.Common.{ap, sym, ◌∙◌, inl, inr}
 use Rattle.std.proofs.lemmas.Bool.{cases_Bool}

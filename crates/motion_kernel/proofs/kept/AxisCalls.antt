@@ -1,5 +1,6 @@
 -- A machine stays kept by a Power, where an owner is taken away, and by a command that is asked of
 -- an axis.
+-- for: owners_have_blocks, machines_stay_kept, call and others
 use Rattle.std.specs.Prelude.{◌≡◌, refl, ℕ, ◌+◌, ◌<◌, Bool, true, false, not, ◌&&◌, Option, Some, None, is_some, length, map, slice_set}
 use Rattle.std.proofs.Common.{arith, ap, sym, subst, ◌∙◌, inl, inr}
 use Rattle.std.proofs.lemmas.Bool.{cases_Bool}

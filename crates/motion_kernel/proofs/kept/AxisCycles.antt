@@ -1,4 +1,5 @@
 -- What the axes of a kept machine make of it in a cycle, after its groups' steps.
+-- for: machines_stay_kept
 use Rattle.std.specs.Prelude.{◌≡◌, refl, ℕ, zero, suc, ◌<◌, ◌≤◌, ℤ, true, nat_eq, List, [], ◌∷◌, length, if◌then◌else◌}
 use Rattle.std.proofs.Common.{arith, ap, sym, subst, ◌∙◌, inl, inr}
 use Rattle.std.proofs.lemmas.Bool.{cases_Bool, cases_eq}

@@ -1,4 +1,5 @@
 -- A machine stays kept by a call.
+-- for: machines_stay_kept, call, cycle and others
 use Rattle.std.specs.Prelude.{◌≡◌, refl, ℕ, ◌<◌, true, false, Option, Some, None, length, slice_get, slice_index_or, if◌then◌else◌}
 use Rattle.std.proofs.Common.{arith, ap, sym, subst, ◌∙◌, inl, inr}
 use Rattle.std.proofs.lemmas.Bool.{cases_Bool}

@@ -1,4 +1,5 @@
 -- A machine stays kept by a cycle.
+-- for: machines_stay_kept
 use Rattle.std.specs.Prelude.{◌≡◌, refl, ℕ, zero, suc, ◌<◌, Bool, Option, Some, None, List, length, map, slice_get}
 use Rattle.std.proofs.Common.{arith, subst, ◌∙◌}
 use Rattle.std.proofs.lemmas.List.{length-set}

@@ -1,4 +1,5 @@
 -- A machine stays kept where an owner is taken away.
+-- for: owners_have_blocks, machines_stay_kept, call and others
 use Rattle.std.specs.Prelude.{◌≡◌, refl, ℕ, ◌+◌, ◌<◌, not, ◌&&◌, Option, Some, None, is_some, [], length, map}
 use Rattle.std.proofs.Common.{arith, ap, sym, subst, ◌∙◌}
 use Rattle.std.proofs.lemmas.List.{get_or-map, length-map}

@@ -1,4 +1,5 @@
 -- A machine stays kept by a command that is asked of a group.
+-- for: machines_stay_kept, call, cycle and others
 use Rattle.std.specs.Prelude.{◌≡◌, ◌⊎◌, refl, ℕ, ◌<◌, ℤ, Bool, true, false, Result, Ok, Err, length}
 use Rattle.std.proofs.Common.{sym, subst, inl, inr}
 use Rattle.command_pool.specs.declared.ending.Refusal.{Refusal}

@@ -1,4 +1,5 @@
 -- What a command that is asked of a kept group makes of it.
+-- for: machines_stay_kept, call, cycle and others
 use Rattle.std.specs.Prelude.{◌≡◌, refl, ℕ, ◌<◌, ℤ, Bool, true, false, not, ◌&&◌, Option, Some, None, Result, Ok, List, length, map, if◌then◌else◌}
 use Rattle.std.proofs.Common.{ap, subst}
 use Rattle.command_pool.specs.declared.ending.Refusal.{Refusal}

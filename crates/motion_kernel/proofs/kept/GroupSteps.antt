@@ -1,4 +1,5 @@
 -- What the groups of a kept machine make of it by their steps in a cycle.
+-- for: rows_are_counted, machines_stay_kept
 use Rattle.std.specs.Prelude.{◌≡◌, refl, ℕ, zero, suc, ◌<◌, ◌≤◌, List, [], length, map}
 use Rattle.std.proofs.Common.{arith, ap, sym, subst, ◌∙◌, inl, inr}
 use Rattle.std.proofs.lemmas.Bool.{cases_eq}

@@ -1,4 +1,5 @@
 -- A machine is kept once its groups and its axes went through a cycle.
+-- for: machines_stay_kept
 use Rattle.std.specs.Prelude.{◌≡◌, refl, ℕ, ◌<◌, true, false, nat_eq, Option, Some, None, is_some, List, [], length, map, if◌then◌else◌}
 use Rattle.std.proofs.Common.{arith, ap, sym, subst, ◌∙◌}
 use Rattle.axis_core.specs.Along.{HasFollowed}

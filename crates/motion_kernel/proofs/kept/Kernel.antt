@@ -1,4 +1,5 @@
 -- What a kernel keeps with one more entry, and the machine that it is.
+-- for: call, cycle, end
 use Rattle.std.specs.Prelude.{◌≡◌, ◌∷◌, ◌++◌, []}
 use Rattle.std.proofs.Common.{ap, sym, subst, ◌∙◌}
 use Rattle.motion_history.specs.Entries.{Entry}

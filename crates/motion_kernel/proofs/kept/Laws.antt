@@ -1,5 +1,6 @@
 -- The laws of axes and groups on which it rests that a machine stays kept: each repeats the clauses
 -- of a law's function.
+-- for: rows_are_counted, owners_have_blocks, machines_stay_kept and others
 use Rattle.std.specs.Prelude.{◌≡◌, ◌⊎◌, ◌<◌, ◌≤ℤ◌, All, IsTrue, ℕ, ℤ, Bool, true, false, nat_eq, Some, None, is_some, List, [], Ok}
 use Rattle.std.specs.List.{list_any}
 use Rattle.axis_core.specs.Along.{GoesAlong, HasFollowed, IsLeftAlone, KeepsDefinition}

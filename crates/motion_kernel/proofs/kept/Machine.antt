@@ -1,4 +1,5 @@
 -- The law that machines stay kept, and a cycle of a history.
+-- for: rows_are_counted, owners_have_blocks
 use Rattle.std.specs.Prelude.{◌≡◌, ℕ, ◌<◌, List, length}
 use Rattle.std.proofs.Common.{arith, ◌∙◌}
 use Rattle.std.proofs.lemmas.List.{length-map}

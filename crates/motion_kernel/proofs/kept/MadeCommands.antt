@@ -1,4 +1,5 @@
 -- A command that a call makes is made of its inputs.
+-- for: machines_stay_kept, call, cycle and others
 use Rattle.std.specs.Prelude.{◌≡◌, refl, ℕ, ◌<◌, pos, true, false, Some, [], length, slice_get, slice_index_or}
 use Rattle.std.proofs.Common.{arith, ap, sym, ◌∙◌}
 use Rattle.axis_core.specs.Demands as axis

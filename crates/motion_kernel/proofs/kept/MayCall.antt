@@ -1,4 +1,5 @@
 -- A kept machine may be called.
+-- for: machines_stay_kept
 use Rattle.std.specs.Prelude.{◌≡◌, refl, ℕ, ◌<◌, Bool, true, false, Some, Result, Ok, Err, length, slice_get}
 use Rattle.std.proofs.Common.{arith}
 use Rattle.axis_core.specs.AxisKept as axis

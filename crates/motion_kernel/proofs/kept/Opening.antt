@@ -1,4 +1,5 @@
 -- A machine is kept at opening.
+-- for: owners_have_blocks, machines_stay_kept
 use Rattle.std.specs.Prelude.{◌≡◌, refl, ℕ, zero, suc, ◌+◌, ◌<◌, Bool, true, false, Option, Some, None, [], length, map, replicate, slice_index_or}
 use Rattle.std.proofs.Common.{arith, ap, sym, subst, ◌∙◌}
 use Rattle.std.proofs.lemmas.List.{get_or-map, length-map, length-replicate}

@@ -1,5 +1,6 @@
 -- What a kernel whose history is in segments keeps: at opening, with one more entry, and with an
 -- empty segment.
+-- for: call, cycle, end and others
 use Rattle.std.specs.Prelude.{◌≡◌, refl, ℕ, ◌+◌, ◌<◌, ◌≤◌, List, [], ◌∷◌, ◌++◌, length}
 use Rattle.std.proofs.Common.{arith, ap, sym, subst, ◌∙◌}
 use Rattle.std.proofs.lemmas.List.{length_push}

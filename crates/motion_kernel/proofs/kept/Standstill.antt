@@ -1,5 +1,6 @@
 -- The invariant of an axis in Standstill, and that the axes of a group of which none is moved are
 -- in it.
+-- for: machines_stay_kept, call, cycle and others
 use Rattle.std.specs.Prelude.{◌≡◌, ◌⊎◌, refl, ℕ, zero, suc, ◌<◌, ◌≤◌, Bool, false, Option, None, List, [], ◌∷◌, length, map, slice_index_or}
 use Rattle.std.specs.List.{list_any}
 use Rattle.std.proofs.Common.{arith, ap, sym, subst, ◌∙◌, inl, inr}

@@ -1,4 +1,5 @@
 -- What a group looks at.
+-- for: cycle
 use Rattle.std.specs.Prelude.{◌≡◌, refl, ℕ, zero, suc, ◌+◌, ◌<◌, Bool, Option, List, length, map, slice_index_or}
 use Rattle.std.proofs.Common.{arith, ap, ◌∙◌}
 use Rattle.std.proofs.lemmas.List.{get_or-map}

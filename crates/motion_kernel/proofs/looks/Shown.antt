@@ -1,4 +1,5 @@
 -- What a group's look shows of its axes.
+-- for: rows_are_counted, owners_have_blocks, machines_stay_kept and others
 use Rattle.std.specs.Prelude.{◌≡◌, refl, ℕ, zero, suc, ◌+◌, ◌<◌, ◌≤◌, pos, Bool, List, [], ◌∷◌, ◌++◌, length, map, take, replicate, slice_index_or, slice_set}
 use Rattle.std.proofs.Common.{arith, ap, sym, ◌∙◌}
 use Rattle.std.proofs.lemmas.List.{get_or-map, get_or-set_other, get_or-take, length-set, take_all, take_more, take_more_set}

@@ -1,4 +1,5 @@
 -- Where an axis stands in its group.
+-- for: open
 use Rattle.std.specs.Prelude.{◌≡◌, refl, ℕ, zero, suc, ◌+◌, ◌<◌, ◌≤◌, nat_eq, Option, Some, None, IfSome, List, [], ◌∷◌, ◌++◌, length, drop, slice_get, slice_index_or}
 use Rattle.std.specs.List.{position}
 use Rattle.std.proofs.Common.{arith, ap, sym, ◌∙◌, inl, inr}

@@ -1,4 +1,5 @@
 -- The axes of the groups of a configuration.
+-- for: rows_are_counted, owners_have_blocks, machines_stay_kept and others
 use Rattle.std.specs.Prelude.{◌≡◌, ℕ, zero, suc, ◌<◌, ◌≤◌, Some, List, [], ◌∷◌, length, slice_get, slice_index_or}
 use Rattle.std.specs.List.{AllByRecursion}
 use Rattle.std.proofs.Common.{arith, ap, sym}

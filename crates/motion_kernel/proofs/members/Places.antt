@@ -1,4 +1,5 @@
 -- Which axis is where in the groups of a configuration.
+-- for: rows_are_counted, owners_have_blocks, machines_stay_kept and others
 use Rattle.std.specs.Prelude.{◌≡◌, refl, ℕ, zero, suc, ◌+◌, ◌<◌, nat_eq, nat_lt, true, false, Option, Some, None, List, [], ◌∷◌, ◌++◌, length, slice_get, slice_index_or}
 use Rattle.std.specs.List.{AllByRecursion, IsDistinct, flat_map, position, position_or_len}
 use Rattle.std.proofs.Common.{arith, ap, sym, ◌∙◌}

@@ -1,4 +1,5 @@
 -- At opening nobody has a command, and nobody holds stopping.
+-- for: owners_have_blocks
 use Rattle.std.specs.Prelude.{◌≡◌, refl, ℕ, zero, suc, ◌+◌, Option, None, List, [], ◌∷◌, length, map}
 use Rattle.std.proofs.Common.{arith, ap}
 use Rattle.axis_core.specs.Cycles.{axis_at_opening}

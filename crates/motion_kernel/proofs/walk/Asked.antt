@@ -1,4 +1,5 @@
 -- A rising edge asks a command of an axis or a group.
+-- for: owners_have_blocks
 use Rattle.std.specs.Prelude.{◌≡◌, refl, ℕ, ◌<◌, true, false, not, ◌&&◌, if◌then◌else◌, Some, length, slice_get, slice_set}
 use Rattle.std.proofs.Common.{arith, ap, sym, ◌∙◌}
 use Rattle.axis_core.specs.Calls.{answer_of, core_after_command}

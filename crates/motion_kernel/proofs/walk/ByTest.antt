@@ -1,4 +1,5 @@
 -- What holds by a test on which two things depend.
+-- for: owners_have_blocks
 use Rattle.std.specs.Prelude.{◌≡◌, refl, Bool, true, false, if◌then◌else◌}
 
 -- the same test decides both

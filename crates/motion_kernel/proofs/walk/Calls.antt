@@ -1,4 +1,5 @@
 -- What every event keeps, every call keeps.
+-- for: owners_have_blocks
 use Rattle.std.specs.Prelude.{◌≡◌, refl, ℕ, ◌<◌, Bool, if◌then◌else◌, Option, Some, None, length, slice_get}
 use Rattle.std.proofs.Common.{arith, ap, subst}
 use Rattle.axis_core.specs.Calls.{core_after_power}

@@ -1,4 +1,5 @@
 -- What every event keeps, every cycle keeps.
+-- for: owners_have_blocks
 use Rattle.std.specs.Prelude.{ℕ, zero, suc, ◌≤◌, List, length}
 use Rattle.std.proofs.Common.{arith}
 use Rattle.axis_core.specs.Cycles.{core_after_cycle}

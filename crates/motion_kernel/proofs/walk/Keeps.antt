@@ -1,4 +1,5 @@
 -- What happens to the commands of the machine, one event after another, and what all events keep.
+-- for: owners_have_blocks
 use Rattle.std.specs.Prelude.{◌≡◌, ℕ, ◌<◌, true, false, nat_eq, Some, List, [], length, slice_get, slice_set}
 use Rattle.command_changes.specs.Laws.{AreAxisChanges, AreGroupChanges}
 use Rattle.command_core.specs.Brought.{BringNone, brought}

@@ -1,4 +1,5 @@
 -- What a call makes of the machine goes by what it asks for.
+-- for: owners_have_blocks
 use Rattle.std.specs.Prelude.{◌≡◌, refl, ℕ, true, false, Option, Some, None, slice_get}
 use Rattle.std.proofs.Common.{ap}
 use Rattle.command_pool.specs.Kinds.{acts_on_group}

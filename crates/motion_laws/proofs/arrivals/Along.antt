@@ -1,4 +1,5 @@
 -- The rows of the axes of a group follow its path.
+-- for: rows_follow_lines
 use Rattle.std.specs.Prelude.{◌≡◌, ℕ, ◌<◌, ℤ, ◌≤ℤ◌, true, List, [], ◌∷◌, ◌++◌, length}
 use Rattle.std.proofs.Common.{arith, subst, sym, ◌∙◌}
 use Rattle.std.proofs.lemmas.List.{append_assoc}

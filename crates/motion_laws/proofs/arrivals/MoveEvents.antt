@@ -1,4 +1,5 @@
 -- What is under way on an axis is carried on by every event of the axis.
+-- for: machines_can_stand, moves_arrive_in_time, paths_end_in_time and others
 use Rattle.std.specs.Prelude.{◌≡◌, refl, ℕ, Bool, true, Option, Some, None, List, [], map, slice_get}
 use Rattle.std.proofs.Common.{arith, sym, subst, ◌∙◌}
 use Rattle.axis_core.specs.Arrivals.{Carried, Course, GoesOn, IsMoveDone, IsUnderWay, bound_of, course_of, turn_of}

@@ -1,4 +1,5 @@
 -- The active commands of axes come to their end in time.
+-- for: moves_arrive_in_time, paths_end_in_time, replies_show_commands and others
 use Rattle.std.specs.Prelude.{◌≡◌, ℕ, zero, suc, ◌+◌, ◌<◌, ◌≤◌, true, Option, Some, None, option_map, List, [], ◌∷◌, ◌++◌, length, slice_get}
 use Rattle.std.proofs.Common.{arith, sym, subst}
 use Rattle.axis_core.specs.Arrivals.{Carried, Course, toward, slowing, IsMoveDone, IsTurn, IsUnderWay, Turn, bound_of, end_turn_of, ended, turn_of}

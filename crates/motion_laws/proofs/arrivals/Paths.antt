@@ -1,4 +1,5 @@
 -- The active commands of groups come to their end in time.
+-- for: machines_can_stand, paths_end_in_time, rows_follow_lines
 use Rattle.std.specs.Prelude.{◌≡◌, refl, ℕ, zero, suc, ◌+◌, ◌<◌, ◌≤◌, ℤ, Option, Some, None, List, [], ◌∷◌, length, is_some, slice_get}
 use Rattle.std.proofs.Common.{arith, sym, subst, ◌∙◌, inl, inr}
 use Rattle.std.proofs.lemmas.Bool.{cases_eq}

@@ -1,4 +1,5 @@
 -- The axes of a group rest where its command is Done, those of a line at its targets.
+-- for: paths_end_in_time, rows_follow_lines
 use Rattle.std.specs.Prelude.{◌≡◌, refl, ℕ, ◌+◌, ◌<◌, ◌≤◌, true, ℤ, nat_eq, Option, Some, None, List, [], ◌∷◌, length, map}
 use Rattle.std.proofs.Common.{arith, ap, sym, subst, ◌∙◌}
 use Rattle.std.proofs.lemmas.List.{get_or-map}
@@ -19,7 +20,7 @@ use Rattle.group_core.specs.Cores.{Core}
 use Rattle.group_core.specs.Cycles as group
 use Rattle.group_core.specs.Cycles.{path_taken, step_of}
 use Rattle.group_core.specs.Fates.{cycle_fate}
-use Rattle.group_core.specs.GroupKept.{IsCoreKept, IsPathOf}
+use Rattle.group_core.specs.GroupKept.{IsCoreKept, IsPathOf, is_within}
 use Rattle.group_core.specs.Refusals.{limits_in}
 use Rattle.group_core.specs.Targets.{EndsAtTargets, IsDoneOn, IsToward}
 use Rattle.group_core.specs.Tracks.{OnPath, place_on}
@@ -148,15 +149,29 @@ look_path : (s : Setup) (around : Surroundings) (m : Machine) (n : ℕ) →
 unfolding axis_look
 look_path s around m n = refl
 
--- one axis, where the command is done
-at_end : DoneLaws → (s : Setup) (m : Machine) (ins : List DriveIn) (j place : ℕ) (w : Wanted) →
-    IsMachineKept s m → j < length m.groups → place < length (members_at s j) →
-    IsGoing (group_core_at m j) → (group_at m j).group.active ≡ Some w →
-    IsDoneOn (look_of_group s m ins j) (group_core_at m j) w →
-    let a = axis_at (after_cycle s m ins) (member_at (members_at s j) place) in
-    (a.previous ≡ a.setpoint) × (w.kind ≡ kind.MoveLinearAbsolute →
-    a.setpoint ≡ coordinate_of w.targets place)
-at_end laws s m ins j place w h l k goes active done =
+-- a group takes a path in a cycle: its axes bring no error, and stand on the path within their
+-- limits
+pub record IsTakenOn (members : GroupLook) (c : Core) (before after : OnPath) : Type 0 where
+  pub path : c.path ≡ Some before
+  pub takes : path_taken members c ≡ Some after
+  pub way : after.way ≡ before.way
+  pub fine : members.error ≡ 0
+  pub within : is_within c.group.state ≡ true
+
+-- one of its axes stood on the path, and goes on to its next place there
+pub record GoesBy (before after : OnPath) (place : ℕ) (a z : Axis) : Type 0 where
+  pub was : a.previous ≡ place_on before.way place before.motion.previous
+  pub is : a.setpoint ≡ place_on before.way place before.motion.place
+  pub previous : z.previous ≡ a.setpoint
+  pub goes : z.setpoint ≡ place_on after.way place after.motion.place
+
+pub goes_by : DoneLaws → (s : Setup) (m : Machine) (ins : List DriveIn) (j place : ℕ)
+    (before after : OnPath) → IsMachineKept s m → j < length m.groups →
+    place < length (members_at s j) →
+    IsTakenOn (look_of_group s m ins j) (group_core_at m j) before after →
+    let n = member_at (members_at s j) place in
+    GoesBy before after place (axis_at m n) (axis_at (after_cycle s m ins) n)
+goes_by laws s m ins j place before after h l k t =
     let members = members_at s j in
     let n = member_at members place in
     let x = group_core_at m j in
@@ -167,22 +182,19 @@ at_end laws s m ins j place w h l k goes active done =
     let fits = looking.fits in
     let is = one.is in
     let g = h.groups j l in
-    let path = g.core.path done.before done.path in
+    let path = g.core.path before t.path in
     let count = path.count in
     let axes = g.count in
     let few = g.core.axes in
     let most = few.most in
-    let same = done.same in
-    let way = same.way in
     let a = member_kept s m j place h l k in
     let look = look_of_axis s m ins n in
     let through = goes_through s m ins n h (laws.groups.machines.may_go_on s m ins h) a.there in
-    let led = a.placed.led done.within in
-    let on = led_on_path (group_at m j) done.before (axis_core_at m n) done.path led in
+    let led = a.placed.led t.within in
+    let on = led_on_path (group_at m j) before (axis_core_at m n) t.path led in
     let stands = (a.placed.on on).stands in
-    let its = (a.placed.on on).on in
     let fine : error_of_group s m ins j ≡ 0 = sym one.error ∙ ap (λ (y : GroupLook). y.error) is
-    ∙ done.fine in
+    ∙ t.fine in
     let none = none_fails m.axes ins members place fine k in
     let alright : nat_eq (answer_error_of (axis_at m n) look.input) 0 ≡ true =
     subst (λ y. nat_eq (answer_error_of (axis_at m n) y) 0 ≡ true)
@@ -195,29 +207,49 @@ at_end laws s m ins j place w h l k goes active done =
     ∙ ap (λ y. Some (coordinate_of y.places place)) step in
     let six : length seen.setpoints ≡ 6 = ap (λ (y : GroupLook). length y.setpoints) (sym is)
     ∙ fits.six in
-    let wide : done.after.way.count ≡ done.before.way.count = ap (λ y. y.count) way in
-    let at = laws.lines.places seen x done.after place done.takes (omega arith) (omega arith) six in
+    let wide : after.way.count ≡ before.way.count = ap (λ y. y.count) t.way in
+    let at = laws.lines.places seen x after place t.takes (omega arith) (omega arith) six in
     let there_is : Some (core_after_cycle look (axis_core_at m n)).axis.setpoint ≡ Some
     (coordinate_of (step_of seen x).places place) = sym along.place ∙ asked in
     let now : (core_after_cycle look (axis_core_at m n)).axis.setpoint ≡ coordinate_of
     (step_of seen x).places place = cc in
-    let setpoint : (axis_at (after_cycle s m ins) n).setpoint ≡ place_on done.after.way place
-    done.after.motion.place =
-    ap (λ (y : Axis). y.setpoint) through.after ∙ now ∙ at in
-    let before_is : Some (a.placed.on on).path ≡ Some done.before = sym its ∙ done.path in
-    let it : (a.placed.on on).path ≡ done.before = cc in
-    let stood : (axis_at m n).setpoint ≡ place_on done.before.way place done.before.motion.place =
-    stands.now_is ∙ ap (λ (p : OnPath). place_on p.way place p.motion.place) it in
-    let previous : (axis_at (after_cycle s m ins) n).previous ≡ place_on done.after.way place
-    done.after.motion.previous =
-    ap (λ (y : Axis). y.previous) through.after ∙ along.previous ∙ stood
-    ∙ ap (λ y. place_on y place done.before.motion.place) (sym way) ∙ ap
-    (place_on done.after.way place) (sym same.previous) in (
-      previous ∙ ap (place_on done.after.way place) (sym done.rests) ∙ sym setpoint,
-      λ line. setpoint ∙ ap (λ y. place_on y place done.after.motion.place) way ∙ ap
+    let before_is : Some (a.placed.on on).path ≡ Some before = sym (a.placed.on on).on ∙ t.path in
+    let it : (a.placed.on on).path ≡ before = cc in
+    record {
+      was = stands.before_is ∙ ap (λ (p : OnPath). place_on p.way place p.motion.previous) it;
+      is = stands.now_is ∙ ap (λ (p : OnPath). place_on p.way place p.motion.place) it;
+      previous = ap (λ (y : Axis). y.previous) through.after ∙ along.previous;
+      goes = ap (λ (y : Axis). y.setpoint) through.after ∙ now ∙ at;
+    }
+
+-- one axis, where the command is done
+at_end : DoneLaws → (s : Setup) (m : Machine) (ins : List DriveIn) (j place : ℕ) (w : Wanted) →
+    IsMachineKept s m → j < length m.groups → place < length (members_at s j) →
+    IsGoing (group_core_at m j) → (group_at m j).group.active ≡ Some w →
+    IsDoneOn (look_of_group s m ins j) (group_core_at m j) w →
+    let a = axis_at (after_cycle s m ins) (member_at (members_at s j) place) in
+    (a.previous ≡ a.setpoint) × (w.kind ≡ kind.MoveLinearAbsolute →
+    a.setpoint ≡ coordinate_of w.targets place)
+at_end laws s m ins j place w h l k goes active done =
+    let same = done.same in
+    let way = same.way in
+    let g = h.groups j l in
+    let path = g.core.path done.before done.path in
+    let count = path.count in
+    let axes = g.count in
+    let by = goes_by laws s m ins j place done.before done.after h l k (record {
+      path = done.path;
+      takes = done.takes;
+      way = way;
+      fine = done.fine;
+      within = done.within;
+    }) in (
+      by.previous ∙ by.is ∙ ap (λ y. place_on y place done.before.motion.place) (sym way)
+          ∙ ap (place_on done.after.way place) (sym same.previous ∙ sym done.rests) ∙ sym by.goes,
+      λ line. by.goes ∙ ap (λ y. place_on y place done.after.motion.place) way ∙ ap
           (place_on done.before.way place) (done.ends line)
-          ∙ laws.lines.ends (map (limits_of s) members) (group_at m j).group.axes done.before path
-          place (omega arith)
+          ∙ laws.lines.ends (map (limits_of s) (members_at s j)) (group_at m j).group.axes done.before
+          path place (omega arith)
           ∙ ap (λ ts. coordinate_of ts place) (goes w done.before active line done.path),
     )
 

@@ -1,4 +1,5 @@
 -- The commands of groups come to their end in time, in every past.
+-- for: paths_end_in_time
 use Rattle.std.specs.Prelude.{ℕ, ◌+◌, ◌<◌, List, ◌∷◌, length, map}
 use Rattle.std.proofs.Common.{arith, subst}
 use Rattle.group_core.specs.Courses.{bound_of}

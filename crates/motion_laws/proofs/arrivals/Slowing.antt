@@ -1,4 +1,5 @@
 -- The rows of an axis under a Halt or a Stop slow down.
+-- for: errors_have_causes, rows_slow_under_halts, rows_follow_lines
 use Rattle.std.specs.Prelude.{◌≡◌, ◌≢◌, refl, ℕ, ◌<◌, ◌-◌, ◌≤◌, ℤ, ◌+ℤ◌, ◌-ℤ◌, ◌≤ℤ◌, pos, Bool, true, false, ◌&&◌, nat_eq, if◌then◌else◌, unsigned_abs, Option, Some, None, List, ◌∷◌, ◌++◌, length, slice_get}
 use Rattle.std.proofs.Common.{arith, ap, subst, sym, ◌∙◌}
 use Rattle.std.proofs.lemmas.Int.{ints}
@@ -114,7 +115,7 @@ slowing_rate kind.MoveRelative l w d h n = absurd (cc)
 slowing_rate _ l w d h n = absurd (cc)
 
 -- the step that is taken slows down
-slows_by : (d before now next t : ℤ) → next ≡ now +ℤ t →
+pub slows_by : (d before now next t : ℤ) → next ≡ now +ℤ t →
     unsigned_abs t ≤ unsigned_abs (now -ℤ before) - unsigned_abs d →
     (before ≤ℤ now → pos 0 ≤ℤ t) → (now ≤ℤ before → t ≤ℤ pos 0) → Slows d before now next
 slows_by d before now next t same less up down =

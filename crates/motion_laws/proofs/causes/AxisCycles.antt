@@ -1,4 +1,5 @@
 -- An axis that comes to ErrorStop in a cycle has an error with a cause.
+-- for: errors_have_causes
 use Rattle.std.specs.Prelude.{◌≡◌, ◌≢◌, ◌⊎◌, refl, ℕ, ℤ, ◌+ℤ◌, Bool, true, false, ◌&&◌, nat_eq, if◌then◌else◌, Option, Some, None, Result, Ok, Err, List, [], ◌∷◌, slice_get}
 use Rattle.std.proofs.Common.{ap, subst, sym, inl, inr, ◌∙◌}
 use Rattle.std.proofs.lemmas.Bool.{and_parts}

@@ -1,4 +1,5 @@
 -- Each error that a cycle of an axis reports has its cause.
+-- for: errors_have_causes
 use Rattle.std.specs.Prelude.{◌≡◌, refl, ℕ, ℤ, ◌+ℤ◌, Bool, true, false, ◌&&◌, nat_eq, if◌then◌else◌, Option, Some, None, List, [], ◌∷◌, ◌++◌, slice_get}
 use Rattle.std.proofs.Common.{ap, subst, sym, inl, inr}
 use Rattle.std.proofs.lemmas.Bool.{and_parts}

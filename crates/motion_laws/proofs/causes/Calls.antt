@@ -1,4 +1,5 @@
 -- What brings an axis or a group its error in a call.
+-- for: errors_have_causes
 use Rattle.std.specs.Prelude.{◌≡◌, ◌⊎◌, refl, ℕ, ◌<◌, Bool, true, false, nat_eq, if◌then◌else◌, ℤ, Option, Some, None, length, slice_get}
 use Rattle.std.proofs.Common.{arith, ap, inl, inr, ◌∙◌}
 use Rattle.std.proofs.lemmas.Bool.{eqb-true}

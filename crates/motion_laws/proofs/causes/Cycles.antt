@@ -1,4 +1,5 @@
 -- What brings an axis or a group its error in a cycle of the machine.
+-- for: errors_have_causes
 use Rattle.std.specs.Prelude.{◌≡◌, ℕ, ℤ, ◌+ℤ◌, ◌<◌, true, false, nat_eq, List, length}
 use Rattle.std.proofs.Common.{arith, ap, subst, sym, inl, inr, ◌∙◌}
 use Rattle.axis_core.specs.AxisKept as kept

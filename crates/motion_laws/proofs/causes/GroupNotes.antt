@@ -1,4 +1,5 @@
 -- Each error that a cycle or a call reports of a group has its cause.
+-- for: errors_have_causes
 use Rattle.std.specs.Prelude.{◌≡◌, refl, ℕ, ℤ, Bool, true, false, if◌then◌else◌, Option, Some, None, List, [], ◌∷◌}
 use Rattle.std.proofs.Common.{subst, sym}
 use Rattle.buffer_modes.specs.Queue.{active_note, end_notes}

@@ -1,4 +1,5 @@
 -- Each error that a row of a past shows was brought in its cycle or in an entry before it.
+-- for: errors_have_causes
 use Rattle.std.specs.Prelude.{◌≡◌, ◌≢◌, refl, ℕ, zero, suc, ◌<◌, true, false, Some, List, [], ◌∷◌, ◌++◌, length, map, slice_get}
 use Rattle.std.proofs.Common.{arith, ap, subst, sym, inl, inr, ◌∙◌}
 use Rattle.std.proofs.lemmas.Bool.{cases_Bool}

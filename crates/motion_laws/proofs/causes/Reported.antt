@@ -1,4 +1,5 @@
 -- Each error that an entry of a past reports has its cause.
+-- for: errors_have_causes
 use Rattle.std.specs.Prelude.{◌≡◌, ◌⊎◌, refl, ℕ, ◌<◌, Bool, ℤ, true, nat_eq, Some, List, [], length, slice_get}
 use Rattle.std.proofs.Common.{arith, ap, subst, sym, inl, inr}
 use Rattle.std.proofs.lemmas.Bool.{cases_Bool}

@@ -1,4 +1,5 @@
 -- What each entry of a past keeps.
+-- for: entries_keep_their_laws
 use Rattle.std.specs.Prelude.{◌≡◌, refl, ℕ, false, Some, List, [], ◌∷◌, ◌++◌, slice_get}
 use Rattle.std.proofs.Common.{ap, sym, subst, ◌∙◌}
 use Rattle.fb_outputs.specs.Steps.{is_power}

@@ -1,4 +1,5 @@
 -- The ErrorID of a refused command of an axis is the first whose condition holds.
+-- for: refusals_are_the_first
 use Rattle.std.specs.Prelude.{◌≡◌, ◌≢◌, ◌⊎◌, refl, ℕ, ◌≤◌, ◌-◌, ◌^◌, ℤ, ◌+ℤ◌, ◌-ℤ◌, pos, neg_ℤ, true, false, not, ◌||◌, ◌==◌, nat_lt, if◌then◌else◌, Option, Some, None, List, [], ◌∷◌, map}
 use Rattle.std.specs.Bool.{Decides}
 use Rattle.std.proofs.Common.{arith, ap, subst, sym, inl, inr, ◌∙◌}

@@ -1,4 +1,5 @@
 -- The ErrorID of a refused call is the first whose condition holds.
+-- for: refusals_are_the_first
 use Rattle.std.specs.Prelude.{◌≡◌, refl, ℕ, Bool, true, false, Option, Some, None, Err, Ok, List, if◌then◌else◌, slice_get, ◌++◌, ◌∷◌}
 use Rattle.std.proofs.Common.{ap, subst, sym, ◌∙◌}
 use Rattle.axis_core.specs.Calls.{answer_by, answer_of, core_after_command, core_after_verdict}

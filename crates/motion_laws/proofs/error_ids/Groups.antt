@@ -1,4 +1,5 @@
 -- The ErrorID of a refused command of a group is the first whose condition holds.
+-- for: refusals_are_the_first
 use Rattle.std.specs.Prelude.{◌≡◌, ◌≢◌, ◌⊎◌, refl, ℕ, zero, suc, ◌<◌, ℤ, pos, Bool, true, false, if◌then◌else◌, Some, List, [], ◌∷◌, map, None}
 use Rattle.std.specs.Bool.{Decides}
 use Rattle.std.specs.List.{list_any}

@@ -1,4 +1,5 @@
 -- What tests decide.
+-- for: refusals_are_the_first, errors_have_causes
 use Rattle.std.specs.Prelude.{◌≡◌, ◌≢◌, refl, ℕ, ℤ, ◌≤ℤ◌, pos, Bool, true, false, not, ◌||◌, int_le, int_lt, Option, Some, None, is_some, List}
 use Rattle.std.specs.Bool.{Decides}
 use Rattle.std.specs.Ordering.{int_eq}

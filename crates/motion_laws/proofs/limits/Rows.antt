@@ -1,4 +1,5 @@
 -- Every row of a past keeps its axis's limits.
+-- for: rows_keep_limits
 use Rattle.std.specs.Prelude.{◌≡◌, refl, ℕ, zero, suc, ◌+◌, ◌<◌, pos, ◌-ℤ◌, Option, Some, List, [], ◌∷◌, length, slice_get, slice_index_or}
 use Rattle.std.proofs.Common.{arith, ap, sym, subst, ◌∙◌}
 use Rattle.std.proofs.lemmas.Int.{ints}

@@ -1,4 +1,5 @@
 -- Every axis and every path of a kept machine can be stopped.
+-- for: axes_stay_stoppable
 use Rattle.std.specs.Prelude.{◌≡◌, ℕ, ◌<◌, true, Some, length, map}
 use Rattle.std.proofs.Common.{arith, subst}
 use Rattle.group_core.specs.GroupKept.{IsPathOf}

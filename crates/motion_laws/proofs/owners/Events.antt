@@ -1,4 +1,5 @@
 -- What an event makes of the commands that an instance has, by its changes.
+-- for: machines_can_stand, replies_show_commands, commands_are_where_their_instances_show and others
 use Rattle.std.specs.Prelude.{◌≡◌, refl, ℕ, ◌<◌, false, nat_eq, if◌then◌else◌, List, length, slice_get}
 use Rattle.std.proofs.Common.{arith, ap, sym, subst, ◌∙◌}
 use Rattle.std.proofs.lemmas.Bool.{eqb-false}

@@ -1,5 +1,6 @@
 -- Whoever holds an axis or a group in stopping is an instance whose block acts there, after every
 -- past.
+-- for: machines_can_stand, replies_show_commands, commands_are_where_their_instances_show and others
 use Rattle.std.specs.Prelude.{◌≡◌, ℕ, ◌<◌, true, Some, List, slice_get}
 use Rattle.std.proofs.Common.{arith}
 use Rattle.cia402_machine.specs.declared.drive.DriveIn.{DriveIn}

@@ -1,4 +1,5 @@
 -- Every event keeps that commands are where their instances show, and the active ones.
+-- for: machines_can_stand, replies_show_commands, commands_are_where_their_instances_show and others
 use Rattle.std.specs.Prelude.{◌≡◌, ℕ, ◌<◌, ◌≤◌, Bool, false, nat_eq, if◌then◌else◌, List, length, slice_get}
 use Rattle.std.proofs.Common.{arith, ap, sym, ◌∙◌}
 use Rattle.std.proofs.lemmas.Bool.{eqb-false}

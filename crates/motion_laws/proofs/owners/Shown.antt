@@ -1,5 +1,6 @@
 -- Commands are where their instances show, and who holds has its block there, after every past
 -- history.
+-- for: machines_can_stand, replies_show_commands, commands_are_where_their_instances_show and others
 use Rattle.std.specs.Prelude.{ℕ, List}
 use Rattle.cia402_machine.specs.declared.drive.DriveIn.{DriveIn}
 use Rattle.fb_outputs.specs.declared.inputs.Inputs.{Inputs}

@@ -1,4 +1,5 @@
 -- A call's reply says how the call is answered.
+-- for: results_are_told
 use Rattle.std.specs.Prelude.{◌≡◌, refl, ℕ, Bool, true, false, if◌then◌else◌, Some, None, Result, Ok, Err, slice_get}
 use Rattle.std.proofs.Common.{ap, sym, subst, ◌∙◌}
 use Rattle.std.proofs.lemmas.Bool.{eq-eqb}

@@ -1,4 +1,5 @@
 -- Commands end by their kinds.
+-- for: commands_end_by_their_kinds
 use Rattle.std.specs.Prelude.{◌≡◌, ◌≢◌, refl, ℕ, ◌<◌, Bool, true, false, ◌&&◌, nat_eq, if◌then◌else◌, ℤ, Option, Some, None, is_some, Result, Ok, Err, List, [], ◌∷◌, length, slice_get}
 use Rattle.std.proofs.Common.{arith, ap, sym, subst, ◌∙◌, inl, inr}
 use Rattle.std.proofs.lemmas.Bool.{cases_Bool}

@@ -1,4 +1,5 @@
 -- What a call's reply reports, by how far the command of its instance then is.
+-- for: replies_show_commands, results_are_told, results_come_of_ends and others
 use Rattle.std.specs.Prelude.{◌≡◌, refl, ℕ, Bool, false, ◌&&◌, if◌then◌else◌, Some, slice_get}
 use Rattle.std.proofs.Common.{ap, sym, subst, ◌∙◌}
 use Rattle.command_pool.specs.declared.ending.Finish.{Finish}

@@ -1,4 +1,5 @@
 -- Each reply that gives a result comes of an end.
+-- for: replies_show_commands, results_come_of_ends, results_stay_shown and others
 use Rattle.std.specs.Prelude.{◌≡◌, ℕ, zero, suc, true, false, Some, List, [], ◌∷◌, ◌++◌, slice_get, slice_set}
 use Rattle.std.proofs.Common.{ap, sym, subst, ◌∙◌}
 use Rattle.std.proofs.lemmas.List.{append_assoc}

@@ -1,4 +1,5 @@
 -- An instance without a command stays as it is in the calls of others and in cycles.
+-- for: results_are_told
 use Rattle.std.specs.Prelude.{◌≡◌, ℕ, false, nat_eq, List}
 use Rattle.std.proofs.Common.{ap, ◌∙◌}
 use Rattle.cia402_machine.specs.declared.drive.DriveIn.{DriveIn}

@@ -1,4 +1,5 @@
 -- A result that a reply reports stays while Execute is true, and goes with it.
+-- for: results_stay_shown, done_moves_are_at_their_targets, commands_end_by_their_kinds and others
 use Rattle.std.specs.Prelude.{◌≡◌, refl, ℕ, Bool, true, false, Some, List, [], ◌∷◌, ◌++◌, slice_get}
 use Rattle.std.proofs.Common.{ap, sym, subst, ◌∙◌}
 use Rattle.std.proofs.lemmas.List.{append-nil, append_assoc}

@@ -1,4 +1,5 @@
 -- A move of an instance is Done at its target.
+-- for: done_moves_are_at_their_targets
 use Rattle.std.specs.Prelude.{◌≡◌, refl, ℕ, ◌<◌, Bool, true, false, nat_eq, if◌then◌else◌, Option, Some, None, Result, Ok, Err, List, ◌∷◌, length, slice_get}
 use Rattle.std.proofs.Common.{arith, ap, sym, subst, ◌∙◌, inl, inr}
 use Rattle.axis_core.specs.blocks.Moves.{is_move}

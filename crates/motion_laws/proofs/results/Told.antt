@@ -1,4 +1,5 @@
 -- Whoever loses its command is notified how it ended, and shows it at its next call or in its own.
+-- for: results_are_told
 use Rattle.std.specs.Prelude.{◌≡◌, refl, ℕ, ◌+◌, Bool, true, false, not, ◌&&◌, if◌then◌else◌, Some, List, [], ◌∷◌, ◌++◌, slice_get}
 use Rattle.std.proofs.Common.{arith, ap, sym, subst, ◌∙◌}
 use Rattle.command_changes.specs.Fates.{AreAxisFates, AreGroupFates}

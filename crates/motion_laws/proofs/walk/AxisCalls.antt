@@ -1,5 +1,6 @@
 -- What a call makes of an axis, and of what waits for it, goes with what it says of the axis: with
 -- the fate of its active command, and with its events.
+-- for: machines_can_stand, moves_arrive_in_time, paths_end_in_time and others
 use Rattle.std.specs.Prelude.{◌≡◌, refl, ℕ, ◌<◌, Bool, true, false, if◌then◌else◌, is_some, nat_eq, Option, Some, None, Result, List, [], ◌∷◌, ◌||◌, length, map, slice_get, slice_set}
 use Rattle.std.specs.List.{list_any}
 use Rattle.std.proofs.Common.{arith, ap, sym, subst, ◌∙◌, inl, inr}

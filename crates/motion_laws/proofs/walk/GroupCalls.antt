@@ -1,5 +1,6 @@
 -- What a call makes of a group goes with what it says of the group: with the fate of its active
 -- command, and with its events.
+-- for: machines_can_stand, paths_end_in_time, states_change_by_their_events and others
 use Rattle.std.specs.Prelude.{◌≡◌, refl, ℕ, ◌<◌, ◌+◌, Bool, true, false, ℤ, if◌then◌else◌, nat_eq, Option, Some, None, Result, List, [], ◌∷◌, length, slice_get, slice_set}
 use Rattle.std.proofs.Common.{arith, ap, sym, subst, ◌∙◌}
 use Rattle.std.proofs.lemmas.Bool.{eqb-false, eqb-true}

@@ -1,4 +1,5 @@
 -- What every event keeps, and what holds at opening, holds after every past.
+-- for: machines_can_stand, at_most_eight_wait, replies_show_commands and others
 use Rattle.std.specs.Prelude.{ℕ, ◌+◌, List, [], ◌∷◌}
 use Rattle.motion_history.specs.Entries.{Entry, call, cycle, cycle_count, end_of}
 use Rattle.motion_history.specs.Setup.{Setup, IsSetup}

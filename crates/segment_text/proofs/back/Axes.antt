@@ -1,4 +1,5 @@
 -- Axes: what is written of one is read as it, and what is read is spelled so.
+-- for: headers_are_read_back, records_are_read_back
 use Rattle.std.specs.Prelude.{◌≡◌, refl, ℕ, ◌<◌, ℤ, Bool, Option, Some, IfSome, List, ◌∷◌, decimal, drop}
 use Rattle.std.specs.Fmt.{signed_decimal}
 use Rattle.std.proofs.Common.{subst, sym}
@@ -27,18 +28,18 @@ unfolding axis_of axis_by with_state with_power with_places with_commands axis_f
 axis-back d n a is =
     rw (
       axes-back a.state,
-      word-back a.error is.error,
+      word-back a.error is.bits.error,
       flags-back a.reached,
       flags-back a.power,
       flags-back a.was_off,
       flags-back a.driven,
-      words-back a.controlword is.controlword,
-      wide-back a.previous is.previous,
-      wide-back a.setpoint is.setpoint,
-      wide-back a.offset is.offset,
-      reset-back a.reset is.reset,
-      owner-back a.hold is.hold,
-      active-back a.active is.active,
+      words-back a.controlword is.bits.controlword,
+      wide-back a.previous is.bits.previous,
+      wide-back a.setpoint is.bits.setpoint,
+      wide-back a.offset is.bits.offset,
+      reset-back a.reset is.bits.reset,
+      owner-back a.hold is.bits.hold,
+      active-back a.active is.bits.active,
       ← is.limits,
       ← is.inc,
     ) refl
@@ -187,13 +188,15 @@ axis-only d all a h =
       is = record {
         limits = refl;
         inc = refl;
-        error = s.is;
-        previous = q.previous_is;
-        setpoint = q.setpoint_is;
-        offset = q.offset_is;
-        active = c.active_is;
-        reset = c.reset_is;
-        hold = c.hold_is;
-        controlword = p.is;
+        bits = record {
+          error = s.is;
+          previous = q.previous_is;
+          setpoint = q.setpoint_is;
+          offset = q.offset_is;
+          active = c.active_is;
+          reset = c.reset_is;
+          hold = c.hold_is;
+          controlword = p.is;
+        };
       };
     })

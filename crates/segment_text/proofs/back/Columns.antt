@@ -1,5 +1,6 @@
 -- The columns of a header: what is written of a value is read as it, and what is read is spelled
 -- so.
+-- for: headers_are_read_back, records_are_read_back
 use Rattle.std.specs.Prelude.{◌≡◌, refl, ℕ, suc, ◌+◌, ◌-◌, ◌*◌, ◌/◌, ◌%◌, ◌^◌, ◌<◌, ◌≤◌, ◌&&◌, ℤ, pos, negsuc, ◌≤ℤ◌, unsigned_abs, Bool, true, false, cond, nat_le, nat_lt, Option, Some, None, IfSome, List, [], ◌∷◌, codes, decimal, length}
 use Rattle.std.specs.Fmt.{signed_decimal}
 use Rattle.std.specs.List.{find}

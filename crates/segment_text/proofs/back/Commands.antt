@@ -1,4 +1,5 @@
 -- Commands: what is written of one is read as it, and what is read is spelled so.
+-- for: headers_are_read_back, records_are_read_back
 use Rattle.std.specs.Prelude.{◌≡◌, refl, ℕ, ℤ, Option, Some, None, IfSome, List, [], ◌∷◌, ◌++◌, codes}
 use Rattle.std.specs.Str.{bytes_eq}
 use Rattle.std.proofs.Common.{◌∙◌, ap, arith, subst}

@@ -1,4 +1,5 @@
 -- Groups: what is written of one is read as it, and what is read is spelled so.
+-- for: headers_are_read_back, records_are_read_back
 use Rattle.std.specs.Prelude.{◌≡◌, refl, ℕ, Some, List, ◌∷◌, ◌++◌, drop}
 use Rattle.std.proofs.Common.{◌∙◌, ap, subst}
 use Rattle.motion_history.specs.declared.config.GroupDef.{GroupDef}
@@ -21,11 +22,11 @@ unfolding group_of group_fields
 group-back d n g is =
     rw (
       groups-back g.group.state,
-      word-back g.group.error is.error,
-      reset-back g.group.reset is.reset,
-      owner-back g.group.hold is.hold,
-      path-back g.path is.path g.group.active,
-      active-back g.group.active is.active,
+      word-back g.group.error is.bits.error,
+      reset-back g.group.reset is.bits.reset,
+      owner-back g.group.hold is.bits.hold,
+      path-back g.path is.bits.path g.group.active,
+      active-back g.group.active is.bits.active,
       ← is.axes,
     ) refl
 
@@ -55,6 +56,9 @@ group-only d (state ∷ error ∷ reset ∷ hold ∷ behind) g h =
     let tail : path_fields p.0.0 ++ active_fields w.0 ≡ behind = ap (λ t. path_fields p.0.0 ++ t) w'.spelled ∙ p'.spelled in
     subst (IsGroupRead d (state ∷ error ∷ reset ∷ hold ∷ behind)) same (record {
       spelled = λ n. rw (group_state-only state s.0 s.1, e'.spelled, r'.spelled, o'.spelled, tail) refl;
-      is = record { axes = refl; error = e'.is; active = w'.is; reset = r'.is; hold = o'.is; path = p'.is };
+      is = record {
+        axes = refl;
+        bits = record { error = e'.is; active = w'.is; reset = r'.is; hold = o'.is; path = p'.is };
+      };
     })
 group-only d _ g h = absurd (cc h)

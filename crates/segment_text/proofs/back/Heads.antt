@@ -1,4 +1,5 @@
 -- The header of a trace segment is read as what was written.
+-- for: headers_are_read_back
 use Rattle.std.specs.Prelude.{◌≡◌, refl, ℕ, suc, ◌+◌, ◌≤◌, ◌<◌, ◌^◌, Some, Ok, List, [], ◌∷◌, ◌++◌, drop, length, slice_get}
 use Rattle.std.specs.List.{AllZip}
 use Rattle.std.proofs.Common.{◌∙◌, ap, append_assoc, arith, sym}

@@ -1,5 +1,6 @@
 -- Lines: the fields of a record's line are those of which it was made, and a line is made of its
 -- fields.
+-- for: headers_are_read_back
 use Rattle.std.specs.Prelude.{◌≡◌, refl, ℕ, ◌+◌, ◌≤◌, ◌==◌, false, List, [], ◌∷◌, ◌++◌, length, map}
 use Rattle.std.specs.List.{AllByRecursion, count_by, onto_first, slice_split}
 use Rattle.std.proofs.Common.{◌∙◌, ap, append_assoc, arith, sym}

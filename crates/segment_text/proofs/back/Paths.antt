@@ -1,4 +1,5 @@
 -- Paths of groups: what is written of one is read as it, and what is read is spelled so.
+-- for: headers_are_read_back, records_are_read_back
 use Rattle.std.specs.Prelude.{◌≡◌, refl, ℕ, ◌≤◌, ◌&&◌, ℤ, false, nat_le, Option, Some, None, IfSome, IsTrue, List, [], ◌∷◌, ◌++◌, codes, decimal}
 use Rattle.std.proofs.Common.{◌∙◌, ap, append_assoc, arith, inl, inr, subst}
 use Rattle.std.specs.Str.{bytes_eq}

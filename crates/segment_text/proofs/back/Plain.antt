@@ -1,4 +1,5 @@
 -- Fields without commas and line feeds: each of their bytes is from the hyphen on.
+-- for: headers_are_read_back
 use Rattle.std.specs.Prelude.{◌≡◌, refl, ℕ, suc, ◌+◌, ◌/◌, ◌%◌, ◌^◌, ◌<◌, ◌≤◌, ℤ, pos, negsuc, Bool, true, false, nat_le, nat_lt, Option, Some, None, IfSome, List, [], ◌∷◌, codes, decimal}
 use Rattle.std.specs.Fmt.{signed_decimal}
 use Rattle.std.specs.List.{AllByRecursion, list_all}
@@ -176,7 +177,7 @@ active-plain (Some w) is = wanted-plain w is
 
 pub axis-plain : (d : AxisDef) (n : ℕ) (a : Axis) → n < 2 ^ 64 → IsAxisOf d a → ArePlain (axis_fields n a)
 unfolding axis_fields is_plain
-axis-plain d n a l is = (plain (codes "axis") refl, (decimal-plain n l, (axis_state-plain a.state, (word-plain a.error is.error, (flag-plain a.reached, (flag-plain a.power, (flag-plain a.was_off, (flag-plain a.driven, (hex-plain a.controlword, (signed-plain a.previous is.previous, (signed-plain a.setpoint is.setpoint, (signed-plain a.offset is.offset, (reset-plain a.reset is.reset, (owner-plain a.hold is.hold, active-plain a.active is.active))))))))))))))
+axis-plain d n a l is = (plain (codes "axis") refl, (decimal-plain n l, (axis_state-plain a.state, (word-plain a.error is.bits.error, (flag-plain a.reached, (flag-plain a.power, (flag-plain a.was_off, (flag-plain a.driven, (hex-plain a.controlword, (signed-plain a.previous is.bits.previous, (signed-plain a.setpoint is.bits.setpoint, (signed-plain a.offset is.bits.offset, (reset-plain a.reset is.bits.reset, (owner-plain a.hold is.bits.hold, active-plain a.active is.bits.active))))))))))))))
 
 path-plain : (p : Option OnPath) → IfSome p IsOnPath → ArePlain (path_fields p)
 unfolding path_fields motion_fields is_plain
@@ -193,7 +194,7 @@ path-plain (Some p) is =
 
 pub group-plain : (d : GroupDef) (n : ℕ) (g : PlacedGroup) → n < 2 ^ 64 → IsGroupOf d g → ArePlain (group_fields n g)
 unfolding group_fields is_plain
-group-plain d n g l is = (plain (codes "group") refl, (decimal-plain n l, (group_state-plain g.group.state, (word-plain g.group.error is.error, (reset-plain g.group.reset is.reset, (owner-plain g.group.hold is.hold, each-append IsPlain (path_fields g.path) _ (path-plain g.path is.path) (active-plain g.group.active is.active)))))))
+group-plain d n g l is = (plain (codes "group") refl, (decimal-plain n l, (group_state-plain g.group.state, (word-plain g.group.error is.bits.error, (reset-plain g.group.reset is.bits.reset, (owner-plain g.group.hold is.bits.hold, each-append IsPlain (path_fields g.path) _ (path-plain g.path is.bits.path) (active-plain g.group.active is.bits.active)))))))
 
 progress-plain : (p : Progress) → IsProgress p → ArePlain (progress_fields p)
 unfolding progress_fields is_plain

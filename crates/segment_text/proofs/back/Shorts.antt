@@ -1,4 +1,5 @@
 -- Records of a header have at most 64 fields.
+-- for: headers_are_read_back
 use Rattle.std.specs.Fmt.{signed_decimal}
 use Rattle.std.specs.Prelude.{◌≡◌, ℕ, ◌+◌, ◌≤◌, ℤ, Option, Some, None, IfSome, List, ◌∷◌, ◌++◌, codes, length}
 use Rattle.std.proofs.Common.{◌∙◌, arith}
@@ -50,7 +51,7 @@ waiting-short w is = let few = wanted-short w is in omega (arith, few)
 
 pub axis-short : (d : AxisDef) (n : ℕ) (a : Axis) → IsAxisOf d a → length (axis_fields n a) ≤ 64
 unfolding axis_fields
-axis-short d n a is = let few = active-short a.active is.active in omega (arith, few)
+axis-short d n a is = let few = active-short a.active is.bits.active in omega (arith, few)
 
 path-short : (p : Option OnPath) → IfSome p IsOnPath → length (path_fields p) ≤ 21
 unfolding path_fields motion_fields
@@ -66,8 +67,8 @@ path-short (Some p) is =
 pub group-short : (d : GroupDef) (n : ℕ) (g : PlacedGroup) → IsGroupOf d g → length (group_fields n g) ≤ 64
 unfolding group_fields
 group-short d n g is =
-    let path = path-short g.path is.path in
-    let active = active-short g.group.active is.active in
+    let path = path-short g.path is.bits.path in
+    let active = active-short g.group.active is.bits.active in
     let both = length-append (path_fields g.path) (active_fields g.group.active) in
     omega (arith, path, active, both)
 

@@ -1,4 +1,5 @@
 -- The header of a trace segment as a whole is read as what was written.
+-- for: headers_are_read_back
 use Rattle.std.specs.Prelude.{◌≡◌, refl, ℕ, zero, suc, ◌+◌, ◌<◌, ◌^◌, true, Ok, Result, List, [], ◌∷◌, ◌++◌, codes, decimal, length, map, replicate}
 use Rattle.std.specs.List.{AllByRecursion, AllZip}
 use Rattle.std.proofs.Common.{◌∙◌, ap, arith, subst, sym}
@@ -62,7 +63,7 @@ instances-plain (d ∷ defs) [] n h l = absurd h
 no-waiting : AreWaiting []
 no-waiting = record { few = omega arith; each = tt }
 
-queues-waiting : (lists : List (List Wanted)) → AllByRecursion AreWaiting lists → (n : ℕ) → AreWaiting (queue_of lists n)
+pub queues-waiting : (lists : List (List Wanted)) → AllByRecursion AreWaiting lists → (n : ℕ) → AreWaiting (queue_of lists n)
 queues-waiting [] all zero = no-waiting
 queues-waiting [] all (suc n) = no-waiting
 queues-waiting (q ∷ qs) all zero = all.0
@@ -174,10 +175,10 @@ whole-back s m is =
       eq-eqb (length m.instances) (length s.blocks) n,
     ) refl
 
-records : Before → Machine → List (List (List ℕ))
+unfoldable pub records : Before → Machine → List (List (List ℕ))
 records b m = trace_segment_fields b ∷ (axis_records m ++ (group_records m ++ instance_records m))
 
-header-lines : (b : Before) (m : Machine) → header_text b m ≡ lines_text (records b m)
+pub header-lines : (b : Before) (m : Machine) → header_text b m ≡ lines_text (records b m)
 unfolding header_text records
 header-lines b m =
     let rest : lines_text (axis_records m ++ (group_records m ++ instance_records m)) ≡ lines_text (axis_records m) ++ (lines_text (group_records m) ++ lines_text (instance_records m)) =

@@ -1,4 +1,5 @@
 -- The events of a call on an axis.
+-- for: axes_change_by_their_events
 use Rattle.std.specs.Prelude.{◌≡◌, refl, ℕ, Bool, true, false, not, ℤ, Option, Some, None, List, [], ◌∷◌, if◌then◌else◌}
 use Rattle.std.proofs.Common.{sym, subst, inl}
 use Rattle.axis_state.specs.Diagram.{IsFrom, next_of}

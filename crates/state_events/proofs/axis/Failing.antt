@@ -1,4 +1,5 @@
 -- What an error makes of an axis in a cycle.
+-- for: axes_change_by_their_events
 use Rattle.std.specs.Prelude.{◌≡◌, refl, ℕ, Bool, true, false, not, ◌&&◌, nat_eq, None, is_some, if◌then◌else◌}
 use Rattle.std.proofs.Common.{ap}
 use Rattle.std.proofs.lemmas.Bool.{and_parts}

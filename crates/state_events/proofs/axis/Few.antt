@@ -1,4 +1,5 @@
 -- At most one event comes by a call on an axis, and at most three in a cycle.
+-- for: events_are_few
 use Rattle.std.specs.Prelude.{◌≡◌, refl, ◌≤◌, Bool, true, false, not, ◌&&◌, nat_eq, ℤ, Option, Some, None, is_some, List, [], ◌∷◌, ◌++◌, length, slice_get, if◌then◌else◌}
 use Rattle.std.proofs.Common.{arith, length-append, subst, sym}
 use Rattle.axis_state.specs.States.{is_error_stop}

@@ -1,4 +1,5 @@
 -- Which rows of the diagram lead where.
+-- for: axes_change_by_their_events
 use Rattle.std.specs.Prelude.{◌≡◌, refl, true, false, List, [], ◌∷◌, ◌++◌}
 use Rattle.std.proofs.Common.{subst}
 use Rattle.axis_state.specs.Diagram.{IsFrom, next_of}

@@ -1,4 +1,5 @@
 -- At most one event comes by a call on a group, by its step and by a GroupReset.
+-- for: events_are_few
 use Rattle.std.specs.Prelude.{ℕ, ◌≤◌, Bool, true, false, not, ◌&&◌, ℤ, Option, Some, None, is_some, List, [], ◌∷◌, ◌++◌, length, if◌then◌else◌}
 use Rattle.std.specs.List.{list_any}
 use Rattle.std.proofs.Common.{arith, subst, sym}

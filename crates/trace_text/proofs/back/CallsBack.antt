@@ -1,4 +1,5 @@
 -- The calls of blocks and the ends of tasks are read back.
+-- for: traces_are_read_back
 use Rattle.std.specs.Prelude.{◌≡◌, refl, ℕ, zero, suc, ◌+◌, ◌-◌, ◌^◌, ◌<◌, ◌≤◌, Bool, true, false, nat_lt, if◌then◌else◌, ℤ, pos, unsigned_abs, Some, Ok, List, [], ◌∷◌, ◌++◌, decimal, drop, length, map, replicate, slice_get, slice_index_or, take}
 use Rattle.std.specs.Fmt.{signed_decimal}
 use Rattle.std.specs.List.{AllByRecursion, join_with_byte}

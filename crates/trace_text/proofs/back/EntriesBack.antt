@@ -1,4 +1,5 @@
 -- The entries of a trace and the records of its drives are read back.
+-- for: traces_are_read_back
 use Rattle.std.specs.Prelude.{◌≡◌, refl, ℕ, suc, ◌+◌, ◌^◌, ◌<◌, ◌≤◌, true, false, nat_le, ℤ, Some, Ok, List, [], ◌∷◌, ◌++◌, length, map, slice_get}
 use Rattle.std.specs.List.{AllByRecursion, AllZip, flat_map}
 use Rattle.std.specs.Option.{option_to_list}

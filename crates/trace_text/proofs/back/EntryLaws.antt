@@ -1,4 +1,5 @@
 -- The rows of cycles and what the drives took, read from what was written of them.
+-- for: traces_are_read_back, rows_are_read_back
 use Rattle.std.specs.Prelude.{◌≡◌, refl, ℕ, ◌-◌, ◌^◌, ◌≤◌, pos, neg_ℤ, Some, Ok, [], ◌∷◌, decimal, drop, slice_get}
 use Rattle.std.specs.Fmt.{signed_decimal}
 use Rattle.std.proofs.Common.{sym, arith}

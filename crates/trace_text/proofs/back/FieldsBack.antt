@@ -1,4 +1,5 @@
 -- The fields of a machine's items are read back.
+-- for: traces_are_read_back
 use Rattle.std.specs.Prelude.{◌≡◌, refl, ℕ, ◌+◌, ◌-◌, ◌≤◌, ◌==◌, true, false, ◌↔◌, ℤ, pos, neg_ℤ, int_le, unsigned_abs, Some, Ok, List, [], ◌∷◌, decimal, IsTrue}
 use Rattle.std.specs.Fmt.{signed_decimal}
 use Rattle.std.specs.List.{AllByRecursion}

@@ -1,4 +1,5 @@
 -- The items of a machine are read back, each after those before it.
+-- for: traces_are_read_back
 use Rattle.std.specs.Prelude.{◌≡◌, refl, ℕ, zero, suc, ◌+◌, ◌-◌, ◌<◌, ◌≤◌, true, false, if◌then◌else◌, nat_eq, nat_le, nat_lt, ℤ, Some, None, Ok, List, [], ◌∷◌, ◌++◌, drop, length, map, replicate, slice_get}
 use Rattle.std.specs.List.{AllByRecursion, IsDistinct, flat_map, position}
 use Rattle.std.specs.Fmt.{signed_decimal}

@@ -1,4 +1,5 @@
 -- The machine part of a trace is read back.
+-- for: traces_are_read_back
 use Rattle.std.specs.Prelude.{◌≡◌, refl, ℕ, ◌≤◌, true, nat_le, ℤ, Ok, Some, List, [], ◌∷◌, ◌++◌, decimal, map}
 use Rattle.std.proofs.Common.{arith}
 use Rattle.std.proofs.lemmas.Bool.{leb-true, le-leb}

@@ -1,4 +1,5 @@
 -- Names are found, and differ from those before them.
+-- for: traces_are_read_back
 use Rattle.std.specs.Prelude.{◌≡◌, refl, ℕ, Bool, true, false, ◌&&◌, not, nat_eq, nat_lt, Some, List, [], ◌∷◌, ◌++◌, map}
 use Rattle.std.specs.List.{AllByRecursion, IsDistinct, flat_map, list_all, list_any, position}
 use Rattle.std.specs.Str.{bytes_eq}

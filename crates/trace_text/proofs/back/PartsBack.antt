@@ -1,4 +1,5 @@
 -- Parts that were joined are read back.
+-- for: traces_are_read_back
 use Rattle.std.specs.Prelude.{◌≡◌, refl, ℕ, zero, suc, ◌<◌, ◌≤◌, Bool, true, false, not, Some, Result, Ok, List, [], ◌∷◌, ◌++◌, drop, length, map, take, slice_get}
 use Rattle.std.specs.List.{AllByRecursion, join_with_byte, position, prefix_len, slice_split, onto_first}
 use Rattle.std.proofs.Common.{◌∙◌, ap, arith, add-one}

@@ -1,4 +1,5 @@
 -- Texts without the marks that stand between parts.
+-- for: traces_are_read_back
 use Rattle.std.specs.Prelude.{◌≡◌, refl, ℕ, suc, ◌+◌, ◌^◌, ◌<◌, ◌≤◌, ◌==◌, ◌%◌, ◌&&◌, ℤ, pos, negsuc, unsigned_abs, true, false, nat_lt, decimal, List, [], ◌∷◌, length}
 use Rattle.std.specs.Fmt.{signed_decimal}
 use Rattle.std.specs.List.{list_all, AllByRecursion}

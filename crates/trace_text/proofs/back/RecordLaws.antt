@@ -1,4 +1,5 @@
 -- The records of a text that was written.
+-- for: traces_are_read_back, records_are_read_back
 use Rattle.std.specs.Prelude.{◌≡◌, refl, ℕ, ◌≤◌, ◌==◌, false, Option, Some, None, List, [], ◌∷◌, ◌++◌, length, map}
 use Rattle.std.specs.List.{AllByRecursion, flat_map}
 use Rattle.std.proofs.Common.{◌∙◌, ap, arith}

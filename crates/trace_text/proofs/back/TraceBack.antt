@@ -1,4 +1,5 @@
 -- The text of a whole trace is read back.
+-- for: traces_are_read_back
 use Rattle.std.specs.Prelude.{◌≡◌, refl, Result, Ok, List, [], ◌++◌, length, map}
 use Rattle.std.specs.List.{flat_map}
 use Rattle.std.proofs.Common.{◌∙◌, sym, ap}

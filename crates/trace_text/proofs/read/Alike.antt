@@ -1,4 +1,5 @@
 -- A record leads a trace as it leads a reader of it that has other entries.
+-- for: read_trace, read_within_room
 use Rattle.std.specs.Prelude.{◌≡◌, refl, ℕ, Result, Ok, Err, List, [], ◌∷◌, ◌++◌, ◌==◌, codes, length}
 use Rattle.std.specs.Option.{ok_or, option_to_list}
 use Rattle.std.proofs.Common.{inl, inr, sym, ap}

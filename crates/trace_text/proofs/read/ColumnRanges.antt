@@ -1,4 +1,5 @@
 -- The ranges of the columns: what is read of a field lies in those of its column.
+-- for: read_trace, read_within_room
 use Rattle.std.proofs.Common.{◌≡◌, ℕ, ◌+◌, ◌*◌, ◌<◌, ◌≤◌, ℤ, Bool, true, false, Option, Some, None, List, [], ◌∷◌, refl, subst, arith, FitsSigned, w64}
 use Rattle.std.specs.Prelude.{pos, int_le, ◌≤ℤ◌, ◌&&◌, cond, option_and_then, unsigned_abs}
 use Rattle.std.specs.Fmt.{signed_decimal}

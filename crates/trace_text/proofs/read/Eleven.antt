@@ -1,4 +1,5 @@
 -- Fields by their places.
+-- for: read_trace, read_within_room
 use Rattle.std.proofs.Common.{◌≡◌, ℕ, ◌<◌, ◌≤◌, List, [], ◌∷◌, Bor, length, get_or, refl, arith}
 use Rattle.std.specs.Prelude.{slice_index_or}
 use Rattle.line_text.specs.Texts.{texts}

@@ -1,4 +1,5 @@
 -- The inputs of a call that is read are those of its block's kind.
+-- for: read_trace, read_within_room
 use Rattle.std.proofs.Common.{◌≡◌, ℕ, zero, suc, ◌-◌, ◌<◌, ◌≤◌, ℤ, Bool, true, false, Some, Ok, Err, List, [], ◌∷◌, ◌++◌, length, refl, sym, ◌∙◌, subst, arith, inl, inr, lit<, lit≤}
 use Rattle.std.specs.Prelude.{pos, neg_ℤ, ◌^◌, ◌≤ℤ◌, ◌==◌, replicate, slice_get, slice_index_or}
 use Rattle.std.specs.List.{AllByRecursion}

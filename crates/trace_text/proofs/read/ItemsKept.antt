@@ -1,4 +1,5 @@
 -- The groups of a machine that is read have arrays of their length.
+-- for: read_trace, read_within_room
 use Rattle.std.proofs.Common.{◌≡◌, ℕ, ◌+◌, ◌-◌, ◌≤◌, Bool, true, false, Option, Some, None, Ok, List, [], ◌∷◌, ◌++◌, length, refl, sym, subst, arith}
 use Rattle.std.specs.Prelude.{◌&&◌, ◌||◌, cond, nat_le, nat_lt, not, replicate}
 use Rattle.std.specs.List.{AllByRecursion}

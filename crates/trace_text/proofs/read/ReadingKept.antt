@@ -1,4 +1,5 @@
 -- The invariant of a trace that is read.
+-- for: read_trace, read_within_room
 use Rattle.std.proofs.Common.{FitsSigned, w64, ◌^◌, ◌≡◌, ℕ, ◌+◌, ◌<◌, ◌≤◌, Bool, true, false, Some, None, Result, Ok, Err, List, [], ◌∷◌, ◌++◌, length, refl, sym, ◌∙◌, ap, subst, arith, inl, inr}
 use Rattle.std.specs.Prelude.{◌&&◌, ◌||◌, ◌==◌, codes, cond, nat_le}
 use Rattle.std.specs.List.{AllByRecursion}

@@ -1,4 +1,5 @@
 -- Records that are taken one after another, as the loop does.
+-- for: read_trace, read_within_room
 use Rattle.std.specs.Prelude.{◌≡◌, refl, ℕ, ◌+◌, Bool, true, false, Ok, Err, List, [], ◌∷◌, length}
 use Rattle.std.specs.Borrow.{Bor}
 use Rattle.std.proofs.Common.{◌∙◌, sym, arith}

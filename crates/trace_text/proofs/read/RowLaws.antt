@@ -1,4 +1,5 @@
 -- A row that is added to the cycle under way.
+-- for: read_trace, read_within_room
 use Rattle.std.specs.Prelude.{◌≡◌, ℕ, ℤ, Option, Result, Ok, List, [], ◌∷◌, ◌++◌, length}
 use Rattle.std.specs.Option.{option_to_list}
 use Rattle.std.proofs.Common.{subst}

@@ -1,4 +1,5 @@
 -- The rows that are read, and what the drives took, are in the ranges of their columns.
+-- for: read_trace, read_within_room
 use Rattle.std.proofs.Common.{◌≡◌, ℕ, ◌-◌, ◌^◌, ◌<◌, ◌≤◌, ◌≤ℤ◌, ℤ, Option, Some, None, Ok, List, [], ◌∷◌, length, refl, subst, arith, FitsSigned, w64}
 use Rattle.std.specs.Prelude.{pos, neg_ℤ}
 use Rattle.std.specs.List.{AllByRecursion}

@@ -1,4 +1,5 @@
 -- Lists of texts that are compared.
+-- for: read_trace, read_within_room
 use Rattle.std.proofs.Common.{◌≡◌, ℕ, suc, ◌+◌, ◌<◌, true, false, List, [], ◌∷◌, Bor, length, get_or, drop, refl, ap, add-one, inl, inr}
 use Rattle.std.proofs.lemmas.Bool.{cases_Bool}
 use Rattle.line_text.specs.Texts.{says, texts}

@@ -1,4 +1,5 @@
 -- Parts that are joined.
+-- for: write_trace
 use Rattle.std.specs.Prelude.{◌≡◌, refl, ℕ, zero, suc, ◌+◌, ◌<◌, ◌==◌, if◌then◌else◌, List, [], ◌∷◌, ◌++◌, length, map, slice_index_or, take}
 use Rattle.std.specs.List.{join_with_byte}
 use Rattle.std.proofs.Common.{◌∙◌, sym, ap, arith, add-one, append_assoc}

@@ -1,4 +1,5 @@
 -- Empty fields after those that there are.
+-- for: write_trace
 use Rattle.std.specs.Prelude.{◌≡◌, refl, ℕ, zero, suc, ◌-◌, List, [], ◌∷◌, ◌++◌, drop, length, map, replicate}
 use Rattle.std.specs.Borrow.{Bor}
 use Rattle.std.proofs.Common.{◌∙◌}

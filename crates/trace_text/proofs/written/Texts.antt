@@ -1,4 +1,5 @@
 -- The text of records, part by part.
+-- for: write_trace
 use Rattle.std.specs.Prelude.{◌≡◌, refl, ℕ, List, [], ◌∷◌, ◌++◌, map}
 use Rattle.std.specs.List.{flat_map}
 use Rattle.std.proofs.Common.{◌∙◌, sym, ap, append_assoc}

@@ -1,4 +1,5 @@
 -- A text that is written piece after piece.
+-- for: write_trace
 use Rattle.std.specs.Prelude.{OnOk, ◌≡◌, refl, ℕ, ◌+◌, ◌*◌, ◌/◌, ◌-◌, ◌≤◌, ◌<◌, min, Option, Result, Ok, Err, List, [], ◌++◌, take, drop, length}
 use Rattle.std.specs.List.{flat_map}
 use Rattle.std.specs.Io.KnownBytes.{Appends}

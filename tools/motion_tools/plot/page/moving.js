@@ -29,6 +29,7 @@ function drawLegend() {
   put("reported by the drive", stroke("reported", [4, 3]));
   put("velocity", stroke("velocity"));
   put("acceleration", stroke("acceleration"));
+  put("jerk", stroke("jerk"));
   if (data.overlay) put(data.overlay, stroke("overlay", [2, 2]), true);
   if (isChecked("following")) put("following error", stroke("reported"), true);
   put("limit", stroke("limit", [6, 4]));

@@ -19,7 +19,7 @@ function layOut(width) {
 function readTheme() {
   const style = getComputedStyle(document.documentElement);
   for (const name of ["page", "panel", "band", "outer", "ink", "muted", "grid", "limit", "position",
-    "reported", "velocity", "acceleration", "overlay", "error", ...KINDS])
+    "reported", "velocity", "acceleration", "jerk", "overlay", "error", ...KINDS])
     theme[name] = style.getPropertyValue("--" + name).trim();
 }
 

@@ -31,15 +31,15 @@ most_fails : (b : Bool) (rates : JerkRates) (room speed most : ℕ) → IsTrue b
     IsLeftBy rates room speed most → ⊥
 most_fails b rates room speed most iff off left = both_ways b off (iff.1 (left.within, left.kept.fits))
 
-pub returns-then-leaves_rest-clause-left : goal.returns-then-leaves_rest-clause-left
-returns-then-leaves_rest-clause-left c =
+pub returns-then-looks_ahead-clause-left : goal.returns-then-looks_ahead-clause-left
+returns-then-looks_ahead-clause-left g c =
     left_between c.args.rates.now c.args.room c.args.speed c.args.least c.args.most c.args.most c.requires.rates c.requires.speed c.requires.order
-    (omega arith) c.requires.gains c.requires.tops c.requires.left (c.leaves_rest.ensures.0 c.if-leaves_rest.true)
+    (omega arith) c.requires.gains c.requires.tops c.requires.left (c.looks_ahead.ensures.value.0 c.if-looks_ahead.true)
 
 pub greatest_between-requires-clause-order : goal.greatest_between-requires-clause-order
-greatest_between-requires-clause-order c =
-    below_most c.leaves_rest.result c.args.rates.now c.args.room c.args.speed c.args.least c.args.most c.requires.order c.requires.left c.leaves_rest.ensures c.if-leaves_rest.false
+greatest_between-requires-clause-order g c =
+    below_most c.looks_ahead.result c.args.rates.now c.args.room c.args.speed c.args.least c.args.most c.requires.order c.requires.left c.looks_ahead.ensures.value c.if-looks_ahead.false
 
 pub greatest_between-requires-clause-fails : goal.greatest_between-requires-clause-fails
-greatest_between-requires-clause-fails c =
-    most_fails c.leaves_rest.result c.args.rates.now c.args.room c.args.speed c.args.most c.leaves_rest.ensures c.if-leaves_rest.false
+greatest_between-requires-clause-fails g c =
+    most_fails c.looks_ahead.result c.args.rates.now c.args.room c.args.speed c.args.most c.looks_ahead.ensures.value c.if-looks_ahead.false

@@ -30,26 +30,26 @@ safe_of rates room w v x f top most least ok kept least_is above below is cut le
     (omega arith) (omega arith) left
 
 pub greatest_left-requires-clause-left : goal.greatest_left-requires-clause-left
-greatest_left-requires-clause-left c =
+greatest_left-requires-clause-left g c =
     (braked c.args.rates.now c.args.room c.args.last c.args.speed c.braked-least.result c.requires.rates c.requires.kept c.braked-least.ensures.value).after
 
 pub returns-then-top-least-clause-safe : goal.returns-then-top-least-clause-safe
-returns-then-top-least-clause-safe c =
+returns-then-top-least-clause-safe g c =
     braked c.args.rates.now c.args.room c.args.last c.args.speed c.braked-least.result c.requires.rates c.requires.kept c.braked-least.ensures.value
 
 pub returns-then-top-least-clause-greatest : goal.returns-then-top-least-clause-greatest
-returns-then-top-least-clause-greatest c = λ x safe most.
+returns-then-top-least-clause-greatest g c = λ x safe most.
     let within : x ≤ c.min-top.result =
     within_top c.args.rates.now c.args.room c.args.last c.args.speed x c.fastest.result c.min-top.result c.args.most c.requires.rates safe most c.fastest.ensures.value c.min-top.ensures in
     omega arith
 
 pub returns-else-top-least-clause-safe : goal.returns-else-top-least-clause-safe
-returns-else-top-least-clause-safe c =
+returns-else-top-least-clause-safe g c =
     safe_of c.args.rates.now c.args.room c.args.last c.args.speed c.greatest_left.result c.fastest.result c.min-top.result c.args.most c.braked-least.result
     c.requires.rates c.requires.kept c.braked-least.ensures.value c.greatest_left.ensures.above c.greatest_left.ensures.below c.fastest.ensures.value
     c.min-top.ensures c.greatest_left.ensures.left
 
 pub returns-else-top-least-clause-greatest : goal.returns-else-top-least-clause-greatest
-returns-else-top-least-clause-greatest c = λ x safe most.
+returns-else-top-least-clause-greatest g c = λ x safe most.
     c.greatest_left.ensures.greatest x safe.after
     (within_top c.args.rates.now c.args.room c.args.last c.args.speed x c.fastest.result c.min-top.result c.args.most c.requires.rates safe most c.fastest.ensures.value c.min-top.ensures)

@@ -9,10 +9,10 @@ within_top : (x a r bend most f m top : ℕ) → x ≤ min a r → x ≤ bend �
 within_top x a r bend most f m top h p q e i o = omega arith
 
 pub greatest_left-requires-clause-left : goal.greatest_left-requires-clause-left
-greatest_left-requires-clause-left c = standing_left c.args.rates.now c.args.motion.now.behind c.requires.rates
+greatest_left-requires-clause-left g c = standing_left c.args.rates.now c.args.motion.now.behind c.requires.rates
 
 pub returns-clause-greatest : goal.returns-clause-greatest
-returns-clause-greatest c = λ x left bends within.
+returns-clause-greatest g c = λ x left bends within.
     c.greatest_left.ensures.greatest x left
     (within_top x c.args.rates.now.a (reach_of c.args.rates.now.v c.args.rates.now.j) (c.args.motion.now.last + c.args.rates.now.j) c.args.most
     c.greatest_fall-fastest.result c.min.result c.min-top.result

@@ -17,11 +17,11 @@ signed_back : (rates : JerkRates) (room g : ℕ) → AreJerkRates rates → IsLe
 signed_back rates room g ok left = let slow : g ≤ rates.v = left.kept.speed in let most = ok.v_most in omega (arith, ints)
 
 pub returns-then-wanted-ge0-clause-safe : goal.returns-then-wanted-ge0-clause-safe
-returns-then-wanted-ge0-clause-safe c =
+returns-then-wanted-ge0-clause-safe g c =
     goes_on c.greatest_safe.result (signed c.args.rates.now _ _ _ c.greatest_safe.result c.requires.rates c.greatest_safe.ensures.safe) c.greatest_safe.ensures.safe
 
 pub returns-then-wanted-ge0-clause-nearest : goal.returns-then-wanted-ge0-clause-nearest
-returns-then-wanted-ge0-clause-nearest c =
+returns-then-wanted-ge0-clause-nearest g c =
     let same : to_z w64 c.greatest_safe.result ≡ pos c.greatest_safe.result =
     signed c.args.rates.now _ _ _ c.greatest_safe.result c.requires.rates c.greatest_safe.ensures.safe in
     rw same (nearest_on c.args.rates.now c.args.motion.now c.args.wanted (unsigned_abs (to_z w64 (of_z w64 c.args.wanted))) c.greatest_safe.result c.requires.rates c.requires.kept
@@ -29,13 +29,13 @@ returns-then-wanted-ge0-clause-nearest c =
     c.greatest_safe.ensures.safe c.greatest_safe.ensures.greatest c.greatest_safe.ensures.within)
 
 pub returns-then-motion-gt0-clause-safe : goal.returns-then-motion-gt0-clause-safe
-returns-then-motion-gt0-clause-safe c =
+returns-then-motion-gt0-clause-safe g c =
     goes_on c.greatest_safe-then-motion-gt0.result
     (signed c.args.rates.now _ _ _ c.greatest_safe-then-motion-gt0.result c.requires.rates c.greatest_safe-then-motion-gt0.ensures.safe)
     c.greatest_safe-then-motion-gt0.ensures.safe
 
 pub returns-then-motion-gt0-clause-nearest : goal.returns-then-motion-gt0-clause-nearest
-returns-then-motion-gt0-clause-nearest c =
+returns-then-motion-gt0-clause-nearest g c =
     let same : to_z w64 c.greatest_safe-then-motion-gt0.result ≡ pos c.greatest_safe-then-motion-gt0.result =
     signed c.args.rates.now _ _ _ c.greatest_safe-then-motion-gt0.result c.requires.rates c.greatest_safe-then-motion-gt0.ensures.safe in
     rw same (nearest_on c.args.rates.now c.args.motion.now c.args.wanted 0 c.greatest_safe-then-motion-gt0.result c.requires.rates c.requires.kept
@@ -43,12 +43,12 @@ returns-then-motion-gt0-clause-nearest c =
     c.greatest_safe-then-motion-gt0.ensures.safe c.greatest_safe-then-motion-gt0.ensures.greatest c.greatest_safe-then-motion-gt0.ensures.within)
 
 pub returns-else-motion-gt0-clause-safe : goal.returns-else-motion-gt0-clause-safe
-returns-else-motion-gt0-clause-safe c =
+returns-else-motion-gt0-clause-safe g c =
     turns c.greatest_back.result (signed_back c.args.rates.now _ c.greatest_back.result c.requires.rates c.greatest_back.ensures.left) (omega arith)
     c.greatest_back.ensures.bends c.greatest_back.ensures.left
 
 pub returns-else-motion-gt0-clause-nearest : goal.returns-else-motion-gt0-clause-nearest
-returns-else-motion-gt0-clause-nearest c =
+returns-else-motion-gt0-clause-nearest g c =
     let same : to_z w64 (of_z w64 (pos 0 -ℤ to_z w64 c.greatest_back.result)) ≡ neg_ℤ (pos c.greatest_back.result) =
     signed_back c.args.rates.now _ c.greatest_back.result c.requires.rates c.greatest_back.ensures.left in
     let wanted_fits : FitsSigned w64 c.args.wanted = c.ranges.wanted in

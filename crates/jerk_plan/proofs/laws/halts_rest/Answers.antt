@@ -1,7 +1,6 @@
 -- The lemmas on halts.
 use Rattle.std.proofs.Common.{◌+◌, ◌-◌, ◌*◌, arith}
-use Rattle.jerk_plan.proofs.Moves.{slowed_brakes, halted_rests}
-use Rattle.jerk_plan.proofs.Arrivals.{halts_by_rates}
+use Rattle.jerk_plan.proofs.Halts.{slowed_brakes, halted_rests, halts_by_rates}
 use Rattle.jerk_plan.proofs.laws.halts_rest.Goals as goal
 
 pub returns : goal.returns

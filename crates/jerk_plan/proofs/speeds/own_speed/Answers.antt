@@ -3,10 +3,10 @@ use Rattle.std.proofs.Common.{arith}
 use Rattle.jerk_plan.proofs.speeds.own_speed.Goals as goal
 
 pub returns-then-last-clause-none : goal.returns-then-last-clause-none
-returns-then-last-clause-none c = λ is kept. omega (arith, kept.loses, kept.speed, c.requires.rates.v_most, c.requires.rates.d_most)
+returns-then-last-clause-none g c = λ is kept. omega (arith, kept.loses, kept.speed, c.requires.rates.v_most, c.requires.rates.d_most)
 
 pub returns-clause-found : goal.returns-clause-found
-returns-clause-found c = λ x is. record {
+returns-clause-found g c = λ x is. record {
   kept = c.safe_speed.ensures.kept x is;
   speed = record { safe = c.safe_speed.ensures.safe x is; greatest = λ y safe. c.safe_speed.ensures.greatest x y is safe };
 }

@@ -1,4 +1,5 @@
 -- How many commands of an instance are active on an axis, and how many wait: by each event of it.
+-- for: owners_have_blocks
 use Rattle.std.specs.Prelude.{◌≡◌, refl, ℕ, Bool, true, false, ◌||◌, is_none, if◌then◌else◌, Option, Some, None, Ok, List, []}
 use Rattle.std.proofs.Common.{ap, sym, ◌∙◌}
 use Rattle.axis_core.specs.Calls as axis_calls

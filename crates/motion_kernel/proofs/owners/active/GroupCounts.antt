@@ -1,4 +1,5 @@
 -- How many commands of an instance are active on a group, and how many wait: by each event of it.
+-- for: owners_have_blocks
 use Rattle.std.specs.Prelude.{◌≡◌, refl, ℕ, Bool, true, false, not, ◌&&◌, ℤ, if◌then◌else◌, Option, Some, None, Ok}
 use Rattle.std.proofs.Common.{ap, sym, ◌∙◌}
 use Rattle.buffer_modes.specs.Owners.{owner_count, owner_by}
@@ -13,7 +14,7 @@ use Rattle.group_core.specs.Refusals as group_refusals
 use Rattle.group_core.specs.declared.look.GroupLook.{GroupLook}
 use Rattle.group_core.specs.declared.reason.Reason as group_reason
 use Rattle.motion_kernel.specs.calls.Calls.{answered_instance}
-use Rattle.command_changes.proofs.group.Brought.{nobody_brakes}
+use Rattle.command_changes.proofs.group.Calls.{nobody_brakes}
 use Rattle.command_core.proofs.Holders.{owner_counts}
 use Rattle.motion_kernel.specs.owners.Commands.{active_shown}
 use Rattle.motion_kernel.proofs.owners.active.AxisCounts.{not_at_once, active_by}

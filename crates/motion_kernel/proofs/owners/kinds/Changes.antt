@@ -1,4 +1,5 @@
 -- Changes leave commands of their blocks' kinds, where those that they bring are.
+-- for: owners_have_blocks
 use Rattle.std.specs.Prelude.{◌≡◌, refl, ℕ, Bool, true, false, nat_eq, ℤ, if◌then◌else◌, Option, Some, None, List, [], ◌∷◌, ◌++◌, map}
 use Rattle.std.specs.List.{AllByRecursion}
 use Rattle.std.proofs.Common.{ap, sym, ◌∙◌}

@@ -1,4 +1,5 @@
 -- The command that a call brings is of its block's kind.
+-- for: owners_have_blocks
 use Rattle.std.specs.Prelude.{◌≡◌, refl, ℤ, true, Option, Some, None, [], ◌∷◌}
 use Rattle.std.proofs.Common.{ap, sym, ◌∙◌}
 use Rattle.axis_core.specs.Calls as axis_calls

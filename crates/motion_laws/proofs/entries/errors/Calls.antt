@@ -1,4 +1,5 @@
 -- Axes and groups have errors exactly in their states of errors after a call.
+-- for: machines_can_stand, rows_show_errors, errors_have_causes
 use Rattle.std.specs.Prelude.{◌≡◌, refl, ℕ, false, Some, List, slice_get}
 use Rattle.std.proofs.Common.{arith, sym, subst}
 use Rattle.axis_core.specs.Calls.{axis_without_owner}

@@ -1,4 +1,5 @@
 -- Axes and groups have errors exactly in their states of errors after a cycle.
+-- for: machines_can_stand, rows_show_errors, errors_have_causes
 use Rattle.std.specs.Prelude.{◌≡◌, refl, ℕ, zero, suc, ◌<◌, ◌≤◌, Bool, true, false, nat_eq, if◌then◌else◌, is_some, List, [], ◌∷◌, length, slice_set}
 use Rattle.std.proofs.Common.{arith, ap, sym, subst, inl, inr}
 use Rattle.std.proofs.lemmas.Bool.{cases_eq}

@@ -1,4 +1,5 @@
 -- Rows show errors exactly in the states of errors, in every entry of a past.
+-- for: machines_can_stand, rows_show_errors, errors_have_causes
 use Rattle.std.specs.Prelude.{ℕ, zero, suc, ◌<◌, ◌+◌, List, [], ◌∷◌, ◌++◌, length, map}
 use Rattle.std.proofs.Common.{arith, ap, sym, subst, ◌∙◌}
 use Rattle.axis_core.specs.Cycles.{axis_at_opening}

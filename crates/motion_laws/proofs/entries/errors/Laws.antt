@@ -1,4 +1,5 @@
 -- The laws on which it rests that rows show errors in the states of errors.
+-- for: machines_can_stand, rows_show_errors, errors_have_causes
 use Rattle.std.specs.Prelude.{◌≡◌, ℕ, ◌<◌, Bool, ℤ, Some, length, slice_get}
 use Rattle.axis_core.specs.Calls.{axis_without_owner, core_after_command, core_after_power}
 use Rattle.axis_core.specs.Cores as axis

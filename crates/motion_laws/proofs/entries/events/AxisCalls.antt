@@ -1,4 +1,5 @@
 -- Each axis changes its state by its events in a call.
+-- for: machines_can_stand, states_change_by_their_events, rows_show_the_machine and others
 use Rattle.std.specs.Prelude.{◌≡◌, refl, ℕ, ◌<◌, Bool, true, false, if◌then◌else◌, is_some, ℤ, Some, List, length, slice_get}
 use Rattle.std.proofs.Common.{arith, ap, sym, subst, ◌∙◌}
 use Rattle.std.proofs.lemmas.Bool.{eqb-true}

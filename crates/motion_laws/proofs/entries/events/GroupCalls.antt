@@ -1,4 +1,5 @@
 -- Each group changes its state by its events in a call.
+-- for: machines_can_stand, states_change_by_their_events, rows_show_the_machine and others
 use Rattle.std.specs.Prelude.{◌≡◌, refl, ℕ, ◌<◌, length, slice_get}
 use Rattle.std.proofs.Common.{arith, ap, subst, ◌∙◌}
 use Rattle.fb_outputs.specs.declared.inputs.Inputs.{Inputs}

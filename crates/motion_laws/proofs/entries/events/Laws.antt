@@ -1,4 +1,5 @@
 -- The laws on which it rests that states change by their events.
+-- for: machines_can_stand, states_change_by_their_events, rows_show_the_machine and others
 use Rattle.std.specs.Prelude.{◌≡◌, ℕ, Some, slice_get}
 use Rattle.fb_outputs.specs.declared.inputs.Inputs.{Inputs}
 use Rattle.motion_history.specs.Calls.{IsCall}

@@ -1,4 +1,5 @@
 -- Errors are reported as they are shown in a call.
+-- for: errors_have_causes, errors_are_told_as_shown
 use Rattle.std.specs.Prelude.{◌≡◌, ◌⊎◌, refl, ℕ, ◌<◌, Bool, true, false, Option, Some, None, List, [], length, slice_get}
 use Rattle.std.proofs.Common.{arith, ap, sym, subst, ◌∙◌, inl, inr}
 use Rattle.axis_core.specs.Calls.{axis_without_owner, core_after_admission, core_after_command, core_after_joining, core_after_power, core_after_verdict, core_with_queued}

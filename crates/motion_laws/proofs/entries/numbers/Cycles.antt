@@ -1,4 +1,5 @@
 -- Errors are reported as they are shown in a cycle.
+-- for: errors_have_causes, errors_are_told_as_shown
 use Rattle.std.specs.Prelude.{◌≡◌, ◌≢◌, ◌⊎◌, refl, ℕ, zero, suc, ◌<◌, ◌≤◌, true, false, nat_eq, if◌then◌else◌, is_some, None, List, [], ◌∷◌, length, slice_set}
 use Rattle.std.proofs.Common.{arith, ap, sym, subst, ◌∙◌, inl, inr}
 use Rattle.std.proofs.lemmas.Bool.{cases_Bool, cases_eq}

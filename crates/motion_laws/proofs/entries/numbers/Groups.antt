@@ -1,4 +1,5 @@
 -- A group has the error that its cycle gives.
+-- for: errors_have_causes, errors_are_told_as_shown, commands_end_by_their_kinds
 use Rattle.std.specs.Prelude.{◌≡◌, ◌⊎◌, refl, ℕ, Bool, true, false, not, ◌&&◌, nat_eq, if◌then◌else◌, ℤ, pos, Option, Some, None, is_some, List, [], ◌∷◌, ◌++◌}
 use Rattle.std.specs.List.{list_any}
 use Rattle.std.specs.Ordering.{int_eq}

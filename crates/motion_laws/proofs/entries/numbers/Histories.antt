@@ -1,4 +1,5 @@
 -- Errors are reported as they are shown, in every entry of a past.
+-- for: errors_are_told_as_shown
 use Rattle.std.specs.Prelude.{refl, List, ◌∷◌, ◌++◌}
 use Rattle.std.proofs.Common.{arith}
 use Rattle.motion_history.specs.Entries.{Entry, call, cycle, end_of}

@@ -1,4 +1,5 @@
 -- Which errors some notes report.
+-- for: errors_have_causes, errors_are_told_as_shown, commands_end_by_their_kinds
 use Rattle.std.specs.Prelude.{◌≡◌, ◌≢◌, refl, ℕ, nat_eq, if◌then◌else◌, Option, Some, None, List, [], ◌∷◌, ◌++◌}
 use Rattle.std.specs.List.{AllByRecursion}
 use Rattle.std.proofs.Common.{ap, subst, sym, ◌∙◌, inl, inr}

@@ -1,4 +1,5 @@
 -- Which calls give no error.
+-- for: errors_have_causes, errors_are_told_as_shown
 use Rattle.std.specs.Prelude.{◌≡◌, ◌⊎◌, refl, ℕ, Bool, true, false, nat_eq, ℤ, Option, Some, None, List, [], ◌∷◌}
 use Rattle.std.proofs.Common.{inl, inr}
 use Rattle.axis_core.specs.Calls as axis_calls

@@ -1,4 +1,5 @@
 -- A refused call changes nothing but its instance.
+-- for: refusals_change_nothing, refusals_are_the_first, replies_tell_one_result and others
 use Rattle.std.specs.Prelude.{◌≡◌, refl, ℕ, zero, suc, ◌+◌, ◌<◌, ◌≤◌, Bool, true, false, Option, Some, None, Err, List, [], ◌∷◌, ◌++◌, length, slice_get}
 use Rattle.std.proofs.Common.{arith, ap, sym, subst, ◌∙◌}
 use Rattle.axis_core.specs.Calls.{answer_by, answer_of, core_after_command, core_after_power, core_after_verdict}

@@ -1,4 +1,5 @@
 -- What a refused call shows, and leaves of its instance.
+-- for: refusals_change_nothing, refusals_are_the_first, replies_tell_one_result and others
 use Rattle.std.specs.Prelude.{◌≡◌, refl, ℕ, zero, suc, Bool, true, false, ◌&&◌, if◌then◌else◌, Ok, Err, List, [], ◌∷◌, map, slice_set}
 use Rattle.std.proofs.lemmas.List.{set-get_or}
 use Rattle.std.proofs.Common.{ap, sym, subst, ◌∙◌}

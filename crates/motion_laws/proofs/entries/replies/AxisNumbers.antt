@@ -1,4 +1,5 @@
 -- Each end that an axis gives has an error's number, where it is an error.
+-- for: replies_tell_one_result, replies_show_commands, results_are_told and others
 use Rattle.std.specs.Prelude.{◌≡◌, refl, ℕ, Bool, true, false, ◌&&◌, ◌||◌, nat_eq, ℤ, ◌-ℤ◌, if◌then◌else◌, Option, Some, None, Result, Ok, Err, List, [], ◌∷◌, ◌++◌, slice_get}
 use Rattle.axis_core.specs.Calls.{core_after_admission, core_after_command, core_after_joining, core_after_leaving, core_after_power, core_after_verdict, queue_in}
 use Rattle.axis_core.specs.Cores.{Core, core_after_end, core_after_ending, core_after_error, core_after_take_over, core_taken_by, core_under_from}

@@ -1,4 +1,5 @@
 -- What a call leaves of the instances, before its reply.
+-- for: replies_tell_one_result, replies_show_commands, results_are_told and others
 use Rattle.std.specs.Prelude.{◌≡◌, ℕ, Bool, true, false, Option, Some, None, Result, Ok, Err, List, [], ◌∷◌, slice_get, slice_set}
 use Rattle.std.specs.List.{AllByRecursion}
 use Rattle.std.proofs.Common.{sym, subst}

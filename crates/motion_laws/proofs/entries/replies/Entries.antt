@@ -1,4 +1,5 @@
 -- Nothing else has happened to an instance of a past than what its block allows.
+-- for: replies_tell_one_result, replies_show_commands, results_are_told and others
 use Rattle.std.specs.Prelude.{◌≡◌, refl, ℕ, zero, suc, Bool, true, false, Option, Some, None, List, [], ◌∷◌, ◌++◌, length, map, slice_get, slice_set}
 use Rattle.std.specs.List.{AllByRecursion}
 use Rattle.std.proofs.Common.{ap, sym, subst, ◌∙◌}

@@ -1,4 +1,5 @@
 -- Each end that a group gives has an error's number, where it is an error.
+-- for: replies_tell_one_result, replies_show_commands, results_are_told and others
 use Rattle.std.specs.Prelude.{◌≡◌, refl, ℕ, Bool, true, false, not, ◌&&◌, nat_eq, ℤ, if◌then◌else◌, Option, Some, None, is_some, List, [], ◌∷◌}
 use Rattle.std.specs.Ordering.{int_eq}
 use Rattle.std.proofs.Common.{inl, inr}

@@ -1,4 +1,5 @@
 -- The rows of a cycle show the machine after it.
+-- for: machines_can_stand, rows_show_the_machine, rows_show_errors and others
 use Rattle.std.specs.Prelude.{◌≡◌, refl, ℕ, zero, suc, ◌<◌, ◌≤◌, Some, List, length, slice_get, slice_index_or, slice_set}
 use Rattle.std.proofs.Common.{arith, ap, sym, subst, ◌∙◌, inl, inr}
 use Rattle.std.proofs.lemmas.Bool.{cases_eq}

@@ -1,4 +1,5 @@
 -- The rows of every entry of a past show the machine after it.
+-- for: rows_show_the_machine
 use Rattle.std.specs.Prelude.{List, ◌∷◌, ◌++◌}
 use Rattle.motion_history.specs.Entries.{Entry, call, cycle, end_of}
 use Rattle.motion_history.specs.Setup.{Setup, IsSetup}

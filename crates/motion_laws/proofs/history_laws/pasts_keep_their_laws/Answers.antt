@@ -29,4 +29,5 @@ returns c s es setup whole past = record {
   refusals = c.refusals_are_the_first.ensures.first s es setup whole past;
   halts = c.rows_slow_under_halts.ensures.rows s es setup whole past;
   lines = c.rows_follow_lines.ensures.rows s es setup whole past;
+  group_halts = c.rows_follow_lines.ensures.halts s es setup whole past;
 }

@@ -1,4 +1,5 @@
 -- Commands are where they are shown after a call.
+-- for: machines_can_stand, replies_show_commands, commands_are_where_their_instances_show and others
 use Rattle.std.specs.Prelude.{◌≡◌, refl, ℕ, zero, suc, true, false, not, ◌&&◌, Some, List, [], ◌∷◌, slice_get, slice_set}
 use Rattle.std.proofs.Common.{ap, ◌∙◌, inl, inr}
 use Rattle.std.proofs.lemmas.Bool.{cases_Bool}

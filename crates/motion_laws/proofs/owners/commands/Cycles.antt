@@ -1,4 +1,5 @@
 -- Commands are where they are shown after a cycle.
+-- for: machines_can_stand, replies_show_commands, commands_are_where_their_instances_show and others
 use Rattle.std.specs.Prelude.{◌≡◌, refl, ℕ, zero, suc, ◌<◌, ◌≤◌, Bool, true, false, if◌then◌else◌, Option, Some, None, List, length, slice_get}
 use Rattle.std.proofs.Common.{arith, ap, sym, ◌∙◌}
 use Rattle.buffer_modes.specs.Owners.{owner_count, owner_by}

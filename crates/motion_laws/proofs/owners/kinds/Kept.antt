@@ -1,4 +1,5 @@
 -- Commands are of the kinds of their instances' blocks, after every past.
+-- for: machines_can_stand, done_moves_are_at_their_targets, commands_end_by_their_kinds
 use Rattle.std.specs.Prelude.{◌≡◌, refl, ℕ, zero, suc, ◌+◌, Some, None, List, [], ◌∷◌, length, map}
 use Rattle.std.specs.List.{AllByRecursion}
 use Rattle.std.proofs.Common.{sym, subst, ◌∙◌, inl, inr}

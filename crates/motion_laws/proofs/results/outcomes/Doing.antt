@@ -1,4 +1,5 @@
 -- A command is Done in a cycle alone, and where it is the active one or a reset.
+-- for: moves_arrive_in_time, paths_end_in_time, replies_show_commands and others
 use Rattle.std.specs.Prelude.{ℕ, Bool, true, false, not, ◌&&◌, nat_eq, ℤ, ◌+ℤ◌, if◌then◌else◌, Option, Some, None, is_some, List, [], ◌∷◌, ◌++◌, slice_get}
 use Rattle.axis_core.specs.Calls as axis_calls
 use Rattle.axis_core.specs.Cores as axes

@@ -1,4 +1,5 @@
 -- In which entries an instance is notified that its command is Done.
+-- for: results_are_told, done_moves_are_at_their_targets, commands_end_by_their_kinds
 use Rattle.std.specs.Prelude.{◌≡◌, ◌⊎◌, ℕ, Some, [], slice_get}
 use Rattle.std.proofs.Common.{arith, subst, sym, inl, inr}
 use Rattle.std.proofs.lemmas.Bool.{cases_eq}

@@ -1,4 +1,5 @@
 -- What an entry of a past makes of the command of an instance.
+-- for: replies_show_commands, entries_make_outcomes, results_are_told and others
 use Rattle.std.specs.Prelude.{◌≡◌, refl, ℕ, ◌<◌, Bool, true, false, ◌&&◌, not, nat_eq, if◌then◌else◌, Some, length, slice_get}
 use Rattle.std.proofs.Common.{arith, ap, sym, subst, ◌∙◌, inl, inr}
 use Rattle.std.proofs.lemmas.Bool.{cases_Bool, eqb-true}

@@ -1,4 +1,5 @@
 -- What each entry of a past makes of the command of an instance.
+-- for: replies_show_commands, entries_make_outcomes, results_are_told and others
 use Rattle.std.specs.Prelude.{◌≡◌, ℕ, ◌+◌, false, Some, List, ◌∷◌, ◌++◌, slice_get}
 use Rattle.fb_outputs.specs.Steps.{is_power}
 use Rattle.motion_history.specs.Entries.{Entry, cycles_of}

@@ -1,5 +1,6 @@
 -- What events leave of the commands of an axis or a group, and of an instance that has its commands
 -- there.
+-- for: replies_show_commands, entries_make_outcomes, results_are_told and others
 use Rattle.std.specs.Prelude.{◌≡◌, ◌≢◌, refl, ℕ, zero, suc, ◌<◌, ◌≤◌, Bool, true, false, nat_eq, if◌then◌else◌, List, [], ◌++◌, length, slice_get}
 use Rattle.std.proofs.Common.{arith, ap, sym, subst, ◌∙◌, inl, inr}
 use Rattle.std.proofs.lemmas.Bool.{cases_Bool, cases_eq, eqb-true}

@@ -1,4 +1,5 @@
 -- An entry's outcome, by what it makes of the commands of an axis or a group.
+-- for: replies_show_commands, entries_make_outcomes, results_are_told and others
 use Rattle.std.specs.Prelude.{◌≡◌, ℕ, true, List, [], slice_get}
 use Rattle.std.proofs.Common.{arith, ap, sym, ◌∙◌}
 use Rattle.cia402_machine.specs.declared.drive.DriveIn.{DriveIn}

@@ -1,5 +1,6 @@
 -- Rows follow the line of their group, by the laws of rows and of lines.
 use Rattle.motion_laws.proofs.arrivals.Along.{AlongLaws, rows_follow}
+use Rattle.motion_laws.proofs.arrivals.Braking.{group_halts_slow}
 use Rattle.motion_laws.proofs.arrivals.Paths.{GroupLaws}
 use Rattle.motion_laws.proofs.arrivals.PathsDone.{DoneLaws}
 use Rattle.motion_laws.proofs.row_laws.rows_follow_lines.Goals as goal
@@ -43,4 +44,7 @@ laws : (c : goal.After-paths_are_followed) → AlongLaws
 laws c = record { done = done c; rows = c.rows_show_the_machine.ensures.entries }
 
 pub returns : goal.returns
-returns c = record { rows = rows_follow (laws c) }
+returns c = record {
+  rows = rows_follow (laws c);
+  halts = group_halts_slow (record { along = laws c; braking = c.braking_steps_are_only_cut.ensures });
+}

@@ -17,33 +17,33 @@ current_of otg own target =
     omega (arith, ints)
 
 pub above-requires-clause-speed : goal.above-requires-clause-speed
-above-requires-clause-speed c =
-    own_small c.args.otg.now _ _ _ c.in-Some.speed (c.is_own_move.ensures.0 c.if-not-is_own_move.false) (c.speed_of_move.ensures c.in-Some.speed c.in-Some.is)
+above-requires-clause-speed g c =
+    own_small c.args.otg.now _ _ _ c.in-Some.speed (c.is_own_move.ensures.0 c.if-not-is_own_move.false) (c.speed_of_move.ensures.found c.in-Some.speed c.in-Some.is)
 
 pub returns-clause-opened : goal.returns-clause-opened
-returns-clause-opened c = λ yes.
+returns-clause-opened g c = λ yes.
     let own : IsOwnMove c.args.otg.now = c.is_own_move.ensures.0 c.if-not-is_own_move.false in
     let here : IsPlace c.args.otg.now.current = current_of c.args.otg.now own (c.has_target_above.ensures.0 c.if-not-has_target_above.false) in
     let fits : FitsSigned w64 c.above.result = record { sfits = c.above.type_inv } in
     let same : to_z w64 (of_z w64 c.above.result) ≡ c.above.result = to_z-of_z fits in
     let is : c.shifted-next.result ≡ shifted_of c.args.otg.now c.above.result = rw same at c.shifted-next.ensures in
-    let small : c.in-Some.speed ≤ 10000000000 = own_small c.args.otg.now _ _ _ c.in-Some.speed own (c.speed_of_move.ensures c.in-Some.speed c.in-Some.is) in
+    let small : c.in-Some.speed ≤ 10000000000 = own_small c.args.otg.now _ _ _ c.in-Some.speed own (c.speed_of_move.ensures.found c.in-Some.speed c.in-Some.is) in
     let done : IsDoneOwn c.args.otg.now c.shifted-next.result =
     own_done c.args.otg.now c.shifted-next.result (pos c.in-Some.speed) c.above.result
     (own_up c.args.otg.now c.in-Some.speed own (c.rises.ensures.0 c.if-not-rises.false) (c.has_target_above.ensures.0 c.if-not-has_target_above.false)
-    (c.speed_of_move.ensures c.in-Some.speed c.in-Some.is)) (omega (arith, ints, c.above.ensures)) is in
+    (c.speed_of_move.ensures.found c.in-Some.speed c.in-Some.is)) (omega (arith, ints, c.above.ensures)) is in
     (done.opened, done.opens)
 
 pub returns-clause-step : goal.returns-clause-step
-returns-clause-step c = λ yes.
+returns-clause-step g c = λ yes.
     let own : IsOwnMove c.args.otg.now = c.is_own_move.ensures.0 c.if-not-is_own_move.false in
     let here : IsPlace c.args.otg.now.current = current_of c.args.otg.now own (c.has_target_above.ensures.0 c.if-not-has_target_above.false) in
     let fits : FitsSigned w64 c.above.result = record { sfits = c.above.type_inv } in
     let same : to_z w64 (of_z w64 c.above.result) ≡ c.above.result = to_z-of_z fits in
     let is : c.shifted-next.result ≡ shifted_of c.args.otg.now c.above.result = rw same at c.shifted-next.ensures in
-    let small : c.in-Some.speed ≤ 10000000000 = own_small c.args.otg.now _ _ _ c.in-Some.speed own (c.speed_of_move.ensures c.in-Some.speed c.in-Some.is) in
+    let small : c.in-Some.speed ≤ 10000000000 = own_small c.args.otg.now _ _ _ c.in-Some.speed own (c.speed_of_move.ensures.found c.in-Some.speed c.in-Some.is) in
     let done : IsDoneOwn c.args.otg.now c.shifted-next.result =
     own_done c.args.otg.now c.shifted-next.result (pos c.in-Some.speed) c.above.result
     (own_up c.args.otg.now c.in-Some.speed own (c.rises.ensures.0 c.if-not-rises.false) (c.has_target_above.ensures.0 c.if-not-has_target_above.false)
-    (c.speed_of_move.ensures c.in-Some.speed c.in-Some.is)) (omega (arith, ints, c.above.ensures)) is in
+    (c.speed_of_move.ensures.found c.in-Some.speed c.in-Some.is)) (omega (arith, ints, c.above.ensures)) is in
     done.step

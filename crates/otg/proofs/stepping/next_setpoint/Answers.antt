@@ -11,8 +11,8 @@ use Rattle.otg.proofs.stepping.next_setpoint.Goals as goal
 taken_at : (otg : Otg) (step same : ℤ) → same ≡ step → IsStepTaken otg step → IsStepTaken otg same
 taken_at otg step same is taken = rw is taken
 
-pub returns : goal.returns
-returns c =
+pub returns-clause-taken : goal.returns-clause-taken
+returns-clause-taken g c =
     let here : IsPlace c.args.otg.now.current = current_place c.args.otg.now c.requires.opened in
     let small : IsStep c.taken_step.result = c.taken_step.ensures.small in
-    record { taken = taken_at c.args.otg.now c.taken_step.result _ (omega (arith, ints, c.moved.ensures)) c.taken_step.ensures.taken }
+    taken_at c.args.otg.now c.taken_step.result _ (omega (arith, ints, c.moved.ensures)) c.taken_step.ensures.taken

@@ -31,15 +31,15 @@ is_2 : (kind : ℕ) → kind ≡ 2 → nat_eq kind 2 ≡ true
 is_2 kind is = rw is refl
 
 pub returns-then-otg-eq1-clause-wanted : goal.returns-then-otg-eq1-clause-wanted
-returns-then-otg-eq1-clause-wanted c =
+returns-then-otg-eq1-clause-wanted g c =
     let way_fits : FitsSigned w64 c.distance.result = record { sfits = c.distance.type_inv } in
-    let fits : FitsSigned w64 c.move_step.result = record { sfits = c.move_step.type_inv } in
+    let fits : FitsSigned w64 c.move_step_counted.result = record { sfits = c.move_step_counted.type_inv } in
     by_move (omega arith)
-    (move_of c.own_rates-rates.result (rates_of_command c.args.otg.now) _ _ _ _ _ _ c.move_step.result _ c.own_rates-rates.ensures
-    (to_z-of_z way_fits ∙ c.distance.ensures.value) (read_back (record { sfits = c.last_step-last.type_inv }) c.last_step-last.ensures.value) (read_back (record { sfits = c.this_step-speed.type_inv }) c.this_step-speed.ensures.value) (to_z-of_z fits) c.move_step.ensures.wanted)
+    (move_of c.own_rates-rates.result (rates_of_command c.args.otg.now) _ _ _ _ _ _ c.move_step_counted.result _ c.own_rates-rates.ensures
+    (to_z-of_z way_fits ∙ c.distance.ensures.value) (read_back (record { sfits = c.last_step-last.type_inv }) c.last_step-last.ensures.value) (read_back (record { sfits = c.this_step-speed.type_inv }) c.this_step-speed.ensures.value) (to_z-of_z fits) c.move_step_counted.ensures.wanted)
 
 pub returns-then-otg-eq2-clause-wanted : goal.returns-then-otg-eq2-clause-wanted
-returns-then-otg-eq2-clause-wanted c =
+returns-then-otg-eq2-clause-wanted g c =
     let fits : FitsSigned w64 c.velocity_step.result = record { sfits = c.velocity_step.type_inv } in
     let target : IsStep c.args.otg.now.target = target_step c.args.otg.now c.requires.opened (is_2 _ c.if-otg-eq2.true) in
     by_velocity (omega arith)
@@ -48,7 +48,7 @@ returns-then-otg-eq2-clause-wanted c =
     (read_back (record { sfits = c.last_step-last.type_inv }) c.last_step-last.ensures.value) (read_back (record { sfits = c.this_step-speed.type_inv }) c.this_step-speed.ensures.value) (to_z-of_z fits) c.velocity_step.ensures.wanted)
 
 pub returns-else-otg-eq2-clause-wanted : goal.returns-else-otg-eq2-clause-wanted
-returns-else-otg-eq2-clause-wanted c =
+returns-else-otg-eq2-clause-wanted g c =
     let fits : FitsSigned w64 c.halt_step.result = record { sfits = c.halt_step.type_inv } in
     by_halt (λ is. omega arith) (λ is. omega arith)
     (halt_of c.own_rates-rates.result (rates_of_command c.args.otg.now) _ _ _ _ c.halt_step.result _ c.own_rates-rates.ensures

@@ -1,7 +1,7 @@
 -- An axis changes its state by its events.
 use Rattle.axis_core.proofs.KeptMoves.{Laws}
 use Rattle.state_events.proofs.axis.Calls.{commands-by, detached-stays, on-path-by, powers-by}
-use Rattle.state_events.proofs.axis.Before.{cycles-by}
+use Rattle.state_events.proofs.axis.Cycles.{cycles-by}
 use Rattle.state_events.proofs.laws.axes_change_by_their_events.Goals as goal
 use Rattle.state_events.proofs.laws.axes_change_by_their_events.Goals.{After-offsets_are_small}
 
