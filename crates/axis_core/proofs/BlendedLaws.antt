@@ -12,14 +12,15 @@ use Rattle.blend_plan.specs.declared.modes.Blend.{Blend}
 use Rattle.buffer_modes.specs.Queue.{is_active_at_once, is_aborting, behind}
 use Rattle.command_pool.specs.declared.ending.Finish.{Finish}
 use Rattle.command_pool.specs.declared.ending.Finish.TheVariants as finish
-use Rattle.command_pool.specs.declared.kind.BlockKind.{BlockKind}
-use Rattle.command_pool.specs.declared.kind.BlockKind.TheVariants as kind
+use Rattle.plc_types.specs.declared.kind.BlockKind.{BlockKind}
+use Rattle.plc_types.specs.declared.kind.BlockKind.TheVariants as kind
 use Rattle.command_pool.specs.declared.rates.Rates.{Rates}
 use Rattle.command_pool.specs.declared.wanted.Wanted.{Wanted}
 use Rattle.command_pool.specs.Rates.{AreRates}
 use Rattle.command_pool.specs.Waiting.{detached, last_of, without}
-use Rattle.kin_core.specs.Admissible.{AreLimits, IsKept}
-use Rattle.kin_core.specs.declared.limits.Limits.{Limits}
+use Rattle.plc_types.specs.Limits.{AreLimits}
+use Rattle.kin_core.specs.Admissible.{IsKept}
+use Rattle.plc_types.specs.declared.limits.Limits.{Limits}
 use Rattle.motion_numbers.specs.declared.TheConstants.{MOST_WAY}
 use Rattle.trapezoid_plan.specs.MoveRun.{move_taken_of}
 use Rattle.axis_core.specs.AxisKept.{AreNumbers, AreRatesWithin, AreWaiting, IsCoreKept}

@@ -5,14 +5,14 @@ use Rattle.std.proofs.Common.{◌∙◌, ap}
 use Rattle.axis_state.specs.Diagram.{next_of}
 use Rattle.axis_state.specs.declared.diagram.AxisEvent.TheVariants as event
 use Rattle.buffer_modes.specs.Queue.{is_active_at_once}
-use Rattle.cia402_machine.specs.declared.drive.DriveIn.{DriveIn}
+use Rattle.plc_types.specs.declared.drive.DriveIn.{DriveIn}
 use Rattle.command_pool.specs.Waiting.{last_of}
 use Rattle.command_pool.specs.declared.ending.Finish.{Finish}
 use Rattle.command_pool.specs.declared.ending.Finish.TheVariants as finish
-use Rattle.command_pool.specs.declared.kind.BlockKind.{BlockKind}
-use Rattle.command_pool.specs.declared.kind.BlockKind.TheVariants as kind
+use Rattle.plc_types.specs.declared.kind.BlockKind.{BlockKind}
+use Rattle.plc_types.specs.declared.kind.BlockKind.TheVariants as kind
 use Rattle.command_pool.specs.declared.wanted.Wanted.{Wanted}
-use Rattle.kin_core.specs.declared.limits.Limits.{Limits}
+use Rattle.plc_types.specs.declared.limits.Limits.{Limits}
 use Rattle.axis_core.specs.Along.{KeepsDefinition}
 use Rattle.axis_core.specs.Calls.{axis_without_owner, core_after_admission, core_after_command, core_after_disabling, core_after_joining, core_after_leaving, core_after_power, core_after_verdict, core_with_queued, queue_in}
 use Rattle.axis_core.specs.Cores.{Core, axis_under, axis_under_by, core_after_end, core_after_ending, core_after_error, core_after_take_over, core_taken_by, core_under_from}

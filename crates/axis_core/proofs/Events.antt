@@ -3,10 +3,10 @@
 use Rattle.std.specs.Prelude.{◌≡◌, refl, false, true}
 use Rattle.axis_state.specs.Diagram.{IsFrom, TakesMotion}
 use Rattle.axis_state.specs.declared.diagram.AxisEvent.TheVariants as event
-use Rattle.axis_state.specs.declared.state.AxisState.{AxisState}
-use Rattle.axis_state.specs.declared.state.AxisState.TheVariants as state
-use Rattle.command_pool.specs.declared.kind.BlockKind.{BlockKind}
-use Rattle.command_pool.specs.declared.kind.BlockKind.TheVariants as kind
+use Rattle.plc_types.specs.declared.axis_state.AxisState.{AxisState}
+use Rattle.plc_types.specs.declared.axis_state.AxisState.TheVariants as state
+use Rattle.plc_types.specs.declared.kind.BlockKind.{BlockKind}
+use Rattle.plc_types.specs.declared.kind.BlockKind.TheVariants as kind
 use Rattle.axis_core.specs.Cores.{MayBegin}
 use Rattle.axis_core.specs.Kinds.{may_wait}
 use Rattle.axis_state.specs.States.{is_error_stop}

@@ -3,8 +3,8 @@
 use Rattle.std.specs.Prelude.{◌≡◌, refl, Bool, true, false, Option, Some, None}
 use Rattle.std.proofs.Common.{◌∙◌, sym}
 use Rattle.command_pool.specs.Waiting.{last_of}
-use Rattle.command_pool.specs.declared.kind.BlockKind.{BlockKind}
-use Rattle.command_pool.specs.declared.kind.BlockKind.TheVariants as kind
+use Rattle.plc_types.specs.declared.kind.BlockKind.{BlockKind}
+use Rattle.plc_types.specs.declared.kind.BlockKind.TheVariants as kind
 use Rattle.command_pool.specs.declared.wanted.Wanted.{Wanted}
 use Rattle.axis_core.specs.Along.{IsLeftAlone}
 use Rattle.axis_core.specs.Calls.{core_after_admission, core_after_command, core_after_verdict}

@@ -5,19 +5,20 @@ use Rattle.std.proofs.lemmas.Bool.{and_parts, not-true, or_left}
 use Rattle.std.specs.Ordering.{int_eq}
 use Rattle.std.proofs.Common.{◌∙◌, sym, ap, subst, arith, inl, inr}
 use Rattle.std.proofs.lemmas.Int.{ints}
-use Rattle.axis_state.specs.Counts.{IsCount}
-use Rattle.axis_state.specs.declared.state.AxisState.{AxisState}
-use Rattle.axis_state.specs.declared.state.AxisState.TheVariants as state
+use Rattle.plc_types.specs.Counts.{IsCount}
+use Rattle.plc_types.specs.declared.axis_state.AxisState.{AxisState}
+use Rattle.plc_types.specs.declared.axis_state.AxisState.TheVariants as state
 use Rattle.cia402_machine.specs.Statusword.{state_of_word}
-use Rattle.cia402_machine.specs.declared.controlword.TheConstants.{CYCLIC_SYNCHRONOUS_POSITION}
-use Rattle.cia402_machine.specs.declared.drive.DriveIn.{DriveIn}
-use Rattle.cia402_machine.specs.declared.drive.DriveState.{DriveState}
-use Rattle.cia402_machine.specs.declared.drive.DriveState.TheVariants as drive
+use Rattle.plc_types.specs.declared.drive.TheConstants.{CYCLIC_SYNCHRONOUS_POSITION}
+use Rattle.plc_types.specs.declared.drive.DriveIn.{DriveIn}
+use Rattle.plc_types.specs.declared.drive.DriveState.{DriveState}
+use Rattle.plc_types.specs.declared.drive.DriveState.TheVariants as drive
 use Rattle.command_pool.specs.Waiting.{queue_of}
 use Rattle.command_pool.specs.declared.notes.Note.{Note}
 use Rattle.command_pool.specs.declared.wanted.Wanted.{Wanted}
-use Rattle.kin_core.specs.Admissible.{AreLimits, IsKept, IsSafe}
-use Rattle.kin_core.specs.declared.limits.Limits.{Limits}
+use Rattle.plc_types.specs.Limits.{AreLimits}
+use Rattle.kin_core.specs.Admissible.{IsKept, IsSafe}
+use Rattle.plc_types.specs.declared.limits.Limits.{Limits}
 use Rattle.axis_core.specs.AxisKept.{AreWaiting, IsActive, IsBased, IsCoreKept, IsInState, IsLook, IsRunning, IsSet, MayQueue}
 use Rattle.axis_core.specs.Cores.{Core, core_at, core_after_error}
 use Rattle.axis_core.specs.Cycles.{advance_in_cycle, advance_without_error, core_after_answer, axis_after_braking, core_after_cycle, axis_after_word, core_after_going_on, core_after_advance, core_after_reset, core_after_step}

@@ -4,14 +4,14 @@ use Rattle.std.specs.Prelude.{◌≡◌, refl, ℕ, Bool, true, false, ℤ, pos,
 use Rattle.std.proofs.lemmas.Bool.{or_parts}
 use Rattle.std.proofs.Common.{sym, ap, subst, arith, inl, inr}
 use Rattle.std.proofs.lemmas.Int.{ints}
-use Rattle.axis_state.specs.declared.state.AxisState.{AxisState}
-use Rattle.axis_state.specs.declared.state.AxisState.TheVariants as state
+use Rattle.plc_types.specs.declared.axis_state.AxisState.{AxisState}
+use Rattle.plc_types.specs.declared.axis_state.AxisState.TheVariants as state
 use Rattle.command_pool.specs.declared.ending.Finish.{Finish}
-use Rattle.command_pool.specs.declared.kind.BlockKind.{BlockKind}
-use Rattle.command_pool.specs.declared.kind.BlockKind.TheVariants as kind
+use Rattle.plc_types.specs.declared.kind.BlockKind.{BlockKind}
+use Rattle.plc_types.specs.declared.kind.BlockKind.TheVariants as kind
 use Rattle.command_pool.specs.declared.wanted.Wanted.{Wanted}
-use Rattle.kin_core.specs.Admissible.{AreLimits}
-use Rattle.kin_core.specs.declared.limits.Limits.{Limits}
+use Rattle.plc_types.specs.Limits.{AreLimits}
+use Rattle.plc_types.specs.declared.limits.Limits.{Limits}
 use Rattle.axis_core.specs.AxisKept.{AreNumbers, AreWaiting, IsActive, IsBased, IsCoreKept, IsInState, IsMoveWithin, IsReady, IsRunning, IsWaiting, MayQueue, fits}
 use Rattle.axis_core.specs.Cores.{Core, axis_under, axis_under_by, core_under_from, core_after_end, core_after_error, state_after_last, state_during, core_after_take_over, core_taken_by}
 use Rattle.axis_core.specs.Kept.{IsSmallTarget}

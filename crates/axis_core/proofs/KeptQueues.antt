@@ -2,12 +2,12 @@
 -- for: axes_stay_kept
 use Rattle.std.specs.Prelude.{◌≡◌, refl, ◌⊎◌, ℕ, Option, List, [], ◌∷◌, map}
 use Rattle.std.proofs.Common.{inl, inr}
-use Rattle.axis_state.specs.declared.state.AxisState.{AxisState}
+use Rattle.plc_types.specs.declared.axis_state.AxisState.{AxisState}
 use Rattle.command_pool.specs.Waiting as pool
 use Rattle.command_pool.specs.declared.wanted.Wanted.{Wanted}
-use Rattle.kin_core.specs.declared.limits.Limits.{Limits}
-use Rattle.command_pool.specs.declared.kind.BlockKind.{BlockKind}
-use Rattle.command_pool.specs.declared.kind.BlockKind.TheVariants as kind
+use Rattle.plc_types.specs.declared.limits.Limits.{Limits}
+use Rattle.plc_types.specs.declared.kind.BlockKind.{BlockKind}
+use Rattle.plc_types.specs.declared.kind.BlockKind.TheVariants as kind
 use Rattle.axis_core.specs.AxisKept.{AreNumbers, AreWaiting, IsQueueKept, MayQueue}
 use Rattle.buffer_modes.specs.Owners.{active_without}
 use Rattle.axis_core.specs.Calls.{axis_without_owner}

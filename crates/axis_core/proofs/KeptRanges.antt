@@ -5,13 +5,13 @@ use Rattle.std.proofs.Common.{ap, subst, sym, arith, inl, inr}
 use Rattle.trapezoid_plan.specs.MoveRun as plan
 use Rattle.std.proofs.lemmas.Int.{ints}
 use Rattle.axis_state.specs.Diagram.{TakesMotion}
-use Rattle.axis_state.specs.declared.state.AxisState.{AxisState}
-use Rattle.axis_state.specs.declared.state.AxisState.TheVariants as state
-use Rattle.command_pool.specs.declared.kind.BlockKind.{BlockKind}
-use Rattle.command_pool.specs.declared.kind.BlockKind.TheVariants as kind
+use Rattle.plc_types.specs.declared.axis_state.AxisState.{AxisState}
+use Rattle.plc_types.specs.declared.axis_state.AxisState.TheVariants as state
+use Rattle.plc_types.specs.declared.kind.BlockKind.{BlockKind}
+use Rattle.plc_types.specs.declared.kind.BlockKind.TheVariants as kind
 use Rattle.command_pool.specs.declared.wanted.Wanted.{Wanted}
-use Rattle.kin_core.specs.Admissible.{AreLimits}
-use Rattle.kin_core.specs.declared.limits.Limits.{Limits}
+use Rattle.plc_types.specs.Limits.{AreLimits}
+use Rattle.plc_types.specs.declared.limits.Limits.{Limits}
 use Rattle.command_pool.specs.Rates.{AreRates, AreRamps}
 use Rattle.axis_core.specs.declared.look.AxisLook.{AxisLook}
 use Rattle.axis_core.specs.AxisKept.{AreNumbers, AreRampsWithin, AreRatesWithin, AreWaiting, IsActive, IsAxisKept, IsCoreKept, IsHomeWithin, IsMoveWithin, IsReady, IsSet, IsWaiting, MayQueue}

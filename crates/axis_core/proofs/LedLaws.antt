@@ -4,17 +4,17 @@ use Rattle.std.specs.Prelude.{◌≡◌, refl, ℕ, Bool, true, false, not, ◌&
 use Rattle.std.proofs.Common.{◌∙◌, sym, ap}
 use Rattle.std.proofs.lemmas.Bool.{and_right}
 use Rattle.axis_state.specs.Diagram.{next_of}
-use Rattle.axis_state.specs.declared.definition.AxisDef.{AxisDef}
+use Rattle.plc_types.specs.declared.axis.AxisDef.{AxisDef}
 use Rattle.axis_state.specs.declared.diagram.AxisEvent.TheVariants as event
-use Rattle.axis_state.specs.declared.state.AxisState.{AxisState}
-use Rattle.axis_state.specs.declared.state.AxisState.TheVariants as state
+use Rattle.plc_types.specs.declared.axis_state.AxisState.{AxisState}
+use Rattle.plc_types.specs.declared.axis_state.AxisState.TheVariants as state
 use Rattle.buffer_modes.specs.Queue.{active_note, is_aborting, is_active_at_once}
-use Rattle.cia402_machine.specs.declared.drive.DriveIn.{DriveIn}
+use Rattle.plc_types.specs.declared.drive.DriveIn.{DriveIn}
 use Rattle.command_pool.specs.Waiting.{last_of}
 use Rattle.command_pool.specs.declared.ending.Finish.{Finish}
 use Rattle.command_pool.specs.declared.ending.Finish.TheVariants as finish
-use Rattle.command_pool.specs.declared.kind.BlockKind.{BlockKind}
-use Rattle.command_pool.specs.declared.kind.BlockKind.TheVariants as kind
+use Rattle.plc_types.specs.declared.kind.BlockKind.{BlockKind}
+use Rattle.plc_types.specs.declared.kind.BlockKind.TheVariants as kind
 use Rattle.command_pool.specs.declared.wanted.Wanted.{Wanted}
 use Rattle.axis_core.specs.AxisKept.{IsCoreKept, fits}
 use Rattle.buffer_modes.specs.Owners.{active_without}

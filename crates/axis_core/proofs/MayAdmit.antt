@@ -3,12 +3,12 @@
 use Rattle.std.specs.Prelude.{◌≡◌, refl, ◌⊎◌, ℕ, Bool, true, false, not, ◌&&◌, nat_eq, ℤ, Option, Some, None, is_some, List, [], ◌∷◌, length, if◌then◌else◌}
 use Rattle.std.proofs.Common.{◌∙◌, ap, sym, subst, inl, inr}
 use Rattle.axis_state.specs.Diagram.{TakesMotion}
-use Rattle.axis_state.specs.declared.state.AxisState.{AxisState}
-use Rattle.axis_state.specs.declared.state.AxisState.TheVariants as state
+use Rattle.plc_types.specs.declared.axis_state.AxisState.{AxisState}
+use Rattle.plc_types.specs.declared.axis_state.AxisState.TheVariants as state
 use Rattle.buffer_modes.specs.Queue.{Commands, is_aborting, is_full}
-use Rattle.command_pool.specs.declared.kind.BlockKind.{BlockKind}
-use Rattle.command_pool.specs.declared.kind.BlockKind.TheVariants as kind
-use Rattle.command_pool.specs.declared.kind.BufferMode.TheVariants.{Aborting}
+use Rattle.plc_types.specs.declared.kind.BlockKind.{BlockKind}
+use Rattle.plc_types.specs.declared.kind.BlockKind.TheVariants as kind
+use Rattle.plc_types.specs.declared.kind.BufferMode.TheVariants.{Aborting}
 use Rattle.command_pool.specs.declared.wanted.Wanted.{Wanted}
 use Rattle.std.proofs.lemmas.Bool.{not-false}
 use Rattle.command_pool.specs.Waiting.{last_of}

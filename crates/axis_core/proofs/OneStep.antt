@@ -4,10 +4,10 @@
 use Rattle.std.proofs.Common.{◌≡◌, ◌∙◌, refl, sym, ap, subst}
 use Rattle.std.specs.Prelude.{◌≤◌, Bool, true, false, None, Option, Some, IfSome, List, unsigned_abs, nat_eq, ◌&&◌, slice_get}
 use Rattle.axis_state.specs.Diagram.{IsFrom}
-use Rattle.axis_state.specs.declared.count.TheConstants.{MOST_REPORTED}
+use Rattle.plc_types.specs.declared.count.TheConstants.{MOST_REPORTED}
 use Rattle.axis_state.specs.declared.diagram.AxisEvent.TheVariants as event
-use Rattle.axis_state.specs.declared.state.AxisState.{AxisState}
-use Rattle.axis_state.specs.declared.state.AxisState.TheVariants as state
+use Rattle.plc_types.specs.declared.axis_state.AxisState.{AxisState}
+use Rattle.plc_types.specs.declared.axis_state.AxisState.TheVariants as state
 use Rattle.command_pool.specs.declared.ending.Finish.{Finish}
 use Rattle.command_pool.specs.declared.wanted.Wanted.{Wanted}
 use Rattle.axis_core.specs.AxisKept.{IsCoreKept}

@@ -1,6 +1,6 @@
 -- What never changes of an axis, and the axis beside its group (PLCopen Motion Control Part 4).
 use Rattle.std.specs.Prelude.{◌≡◌, true, false, Some, None, []}
-use Rattle.axis_state.specs.declared.state.AxisState.TheVariants as state
+use Rattle.plc_types.specs.declared.axis_state.AxisState.TheVariants as state
 use Rattle.axis_core.specs.Cores.{Core}
 use Rattle.axis_core.specs.declared.axis.Axis.{Axis}
 use Rattle.axis_core.specs.declared.look.AxisLook.{AxisLook}

@@ -2,7 +2,7 @@
 use Rattle.std.specs.Prelude.{◌≤◌, pos, ◌≤ℤ◌, unsigned_abs}
 use Rattle.std.specs.Option.{option_copied}
 use Rattle.motion_numbers.specs.declared.TheConstants.{MOST_NUMBER}
-use Rattle.axis_state.specs.declared.count.TheConstants.{MOST_OFFSET}
+use Rattle.plc_types.specs.declared.count.TheConstants.{MOST_OFFSET}
 use Rattle.axis_core.specs.declared.axis.TheConstants.{MOST_SETPOINT}
 use Rattle.motion_numbers.specs.Ranges.{IsStep, IsPlace}
 use Rattle.axis_core.specs.Kept.{IsSmallTarget}

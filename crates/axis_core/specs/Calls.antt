@@ -5,8 +5,8 @@ use Rattle.buffer_modes.specs.Queue.{Commands, admitted, noted, is_active_at_onc
 use Rattle.command_pool.specs.Waiting.{last_of, without}
 use Rattle.command_pool.specs.declared.ending.Finish.TheVariants as finish
 use Rattle.command_pool.specs.declared.ending.Refusal.{Refusal}
-use Rattle.command_pool.specs.declared.kind.BlockKind.{BlockKind}
-use Rattle.command_pool.specs.declared.kind.BlockKind.TheVariants as kind
+use Rattle.plc_types.specs.declared.kind.BlockKind.{BlockKind}
+use Rattle.plc_types.specs.declared.kind.BlockKind.TheVariants as kind
 use Rattle.command_pool.specs.declared.wanted.Wanted.{Wanted}
 use Rattle.axis_core.specs.Cores.{Core, core_after_all_ends, axis_under, axis_under_by}
 use Rattle.axis_core.specs.Refusals.{Asked, number_of, refusal_of}

@@ -1,18 +1,19 @@
 -- The order within a cycle of an axis (PLCopen Motion Control Part 1; the order is this project's
 -- profile).
 use Rattle.std.specs.Prelude.{ℕ, Bool, false, ◌&&◌, nat_eq, if◌then◌else◌, ℤ, pos, ◌+ℤ◌, Option, Some, None, is_some, ◌++◌, slice_get, Result, Ok, Err}
-use Rattle.axis_state.specs.Counts.{count_of}
-use Rattle.axis_state.specs.declared.definition.AxisDef.{AxisDef}
-use Rattle.axis_state.specs.declared.definition.AxisRow.{AxisRow}
-use Rattle.axis_state.specs.declared.state.AxisState.TheVariants as state
+use Rattle.plc_types.specs.Counts.{count_of}
+use Rattle.plc_types.specs.declared.axis.AxisDef.{AxisDef}
+use Rattle.plc_types.specs.declared.axis.AxisRow.{AxisRow}
+use Rattle.plc_types.specs.declared.axis_state.AxisState.TheVariants as state
 use Rattle.cia402_machine.specs.Controlword.{next_controlword_of}
 use Rattle.cia402_machine.specs.Statusword.{state_of_word}
-use Rattle.cia402_machine.specs.declared.controlword.TheConstants.{CYCLIC_SYNCHRONOUS_POSITION, DISABLE_VOLTAGE, ENABLE_OPERATION}
-use Rattle.cia402_machine.specs.declared.drive.DriveIn.{DriveIn}
+use Rattle.plc_types.specs.declared.drive.TheConstants.{CYCLIC_SYNCHRONOUS_POSITION}
+use Rattle.cia402_machine.specs.declared.controlword.TheConstants.{DISABLE_VOLTAGE, ENABLE_OPERATION}
+use Rattle.plc_types.specs.declared.drive.DriveIn.{DriveIn}
 use Rattle.command_pool.specs.declared.ending.Finish.{Finish}
 use Rattle.command_pool.specs.declared.ending.Finish.TheVariants as finish
-use Rattle.command_pool.specs.declared.kind.BlockKind.{BlockKind}
-use Rattle.command_pool.specs.declared.kind.BlockKind.TheVariants as kind
+use Rattle.plc_types.specs.declared.kind.BlockKind.{BlockKind}
+use Rattle.plc_types.specs.declared.kind.BlockKind.TheVariants as kind
 use Rattle.command_pool.specs.declared.wanted.Wanted.{Wanted}
 use Rattle.kin_core.specs.Toward.{toward_zero}
 use Rattle.axis_core.specs.Cores.{Core, core_after_ending, core_after_error}

@@ -1,13 +1,13 @@
 -- What the answer of a drive says (IEC 61800-7-201, objects 6041h, 6061h and 6064h).
 use Rattle.std.specs.Prelude.{ℕ, Bool, true, false, ◌&&◌, ◌||◌, not, if◌then◌else◌, ℤ, Option, Some, None}
 use Rattle.std.specs.Ordering.{int_eq}
-use Rattle.axis_state.specs.Counts.{place_of}
+use Rattle.plc_types.specs.Counts.{place_of}
 use Rattle.cia402_machine.specs.Statusword.{state_of_word}
 use Rattle.cia402_machine.specs.Transitions.{is_faulty}
-use Rattle.cia402_machine.specs.declared.controlword.TheConstants.{CYCLIC_SYNCHRONOUS_POSITION}
-use Rattle.cia402_machine.specs.declared.drive.DriveIn.{DriveIn}
-use Rattle.cia402_machine.specs.declared.drive.DriveState.{DriveState}
-use Rattle.cia402_machine.specs.declared.drive.DriveState.TheVariants.{OperationEnabled}
+use Rattle.plc_types.specs.declared.drive.TheConstants.{CYCLIC_SYNCHRONOUS_POSITION}
+use Rattle.plc_types.specs.declared.drive.DriveIn.{DriveIn}
+use Rattle.plc_types.specs.declared.drive.DriveState.{DriveState}
+use Rattle.plc_types.specs.declared.drive.DriveState.TheVariants.{OperationEnabled}
 use Rattle.motion_numbers.specs.Ranges.{is_outside}
 use Rattle.axis_state.specs.States.{is_error_stop}
 use Rattle.axis_core.specs.blocks.Power.{state_when_driven, is_powered}

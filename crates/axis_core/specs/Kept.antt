@@ -1,14 +1,15 @@
 -- The ranges of the numbers that a cycle works with.
 use Rattle.std.specs.Prelude.{◌≡◌, ◌≤◌, ℤ, pos, ◌≤ℤ◌, ◌-ℤ◌, unsigned_abs, true, false, Option, Some, None, IfSome, slice_get, List, [], ◌∷◌}
-use Rattle.axis_state.specs.declared.count.TheConstants.{MOST_OFFSET, MOST_REPORTED}
+use Rattle.plc_types.specs.declared.count.TheConstants.{MOST_OFFSET, MOST_REPORTED}
 use Rattle.axis_core.specs.declared.axis.TheConstants.{MOST_TARGET}
 use Rattle.motion_numbers.specs.declared.TheConstants.{MOST_INCREMENT, MOST_PLACE, MOST_RATIO, MOST_STEP}
 use Rattle.motion_numbers.specs.Ranges.{IsStep, IsPlace}
-use Rattle.command_pool.specs.declared.kind.BlockKind.{BlockKind}
-use Rattle.command_pool.specs.declared.kind.BlockKind.TheVariants as kind
+use Rattle.plc_types.specs.declared.kind.BlockKind.{BlockKind}
+use Rattle.plc_types.specs.declared.kind.BlockKind.TheVariants as kind
 use Rattle.command_pool.specs.declared.wanted.Wanted.{Wanted}
-use Rattle.kin_core.specs.Admissible.{AreLimits, IsKept}
-use Rattle.kin_core.specs.declared.limits.Limits.{Limits}
+use Rattle.plc_types.specs.Limits.{AreLimits}
+use Rattle.kin_core.specs.Admissible.{IsKept}
+use Rattle.plc_types.specs.declared.limits.Limits.{Limits}
 use Rattle.axis_state.specs.Diagram.{IsFrom}
 use Rattle.axis_state.specs.declared.diagram.AxisEvent.TheVariants as event
 use Rattle.buffer_modes.specs.Queue.{is_full}

@@ -1,7 +1,7 @@
 -- By what an axis moves (PLCopen Motion Control Part 1, the state diagram).
 use Rattle.std.specs.Prelude.{◌≡◌, Bool, true, false, is_some}
-use Rattle.axis_state.specs.declared.state.AxisState.{AxisState}
-use Rattle.axis_state.specs.declared.state.AxisState.TheVariants as state
+use Rattle.plc_types.specs.declared.axis_state.AxisState.{AxisState}
+use Rattle.plc_types.specs.declared.axis_state.AxisState.TheVariants as state
 use Rattle.axis_core.specs.blocks.Path.{is_on_path}
 use Rattle.axis_core.specs.declared.axis.Axis.{Axis}
 

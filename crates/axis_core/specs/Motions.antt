@@ -3,8 +3,8 @@
 use Rattle.std.specs.Prelude.{◌≡◌, ◌↔◌, ℤ, ◌+ℤ◌, Bool, true, false, Option, Some, None}
 use Rattle.blend_plan.specs.BlendRun.{blend_taken_of}
 use Rattle.command_pool.specs.declared.ending.Finish.TheVariants as finish
-use Rattle.command_pool.specs.declared.kind.BlockKind.{BlockKind}
-use Rattle.command_pool.specs.declared.kind.BlockKind.TheVariants as kind
+use Rattle.plc_types.specs.declared.kind.BlockKind.{BlockKind}
+use Rattle.plc_types.specs.declared.kind.BlockKind.TheVariants as kind
 use Rattle.command_pool.specs.declared.wanted.Wanted.{Wanted}
 use Rattle.trapezoid_plan.specs.MoveRun.{halt_taken_of, move_taken_of}
 use Rattle.buffer_modes.specs.Fates.{Fate}

@@ -2,8 +2,8 @@
 -- rules).
 use Rattle.std.specs.Prelude.{ℕ, ◌+◌, map, Option, Some, None}
 use Rattle.buffer_modes.specs.Owners.{owner_count, owner_by, waits_of}
-use Rattle.command_pool.specs.declared.kind.BlockKind.{BlockKind}
-use Rattle.command_pool.specs.declared.kind.BlockKind.TheVariants as kind
+use Rattle.plc_types.specs.declared.kind.BlockKind.{BlockKind}
+use Rattle.plc_types.specs.declared.kind.BlockKind.TheVariants as kind
 use Rattle.command_pool.specs.declared.wanted.Wanted.{Wanted}
 use Rattle.command_pool.specs.Waiting as pool
 use Rattle.axis_core.specs.Calls.{axis_without_owner}

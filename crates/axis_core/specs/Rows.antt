@@ -1,7 +1,7 @@
 -- The driven spell of an axis.
 use Rattle.std.specs.Prelude.{◌≡◌, IsTrue, ◌-ℤ◌, Option, Some, None, if◌then◌else◌}
 use Rattle.axis_state.specs.Spells.{Spell, KeepsRow, spell_after}
-use Rattle.axis_state.specs.declared.definition.AxisRow.{AxisRow}
+use Rattle.plc_types.specs.declared.axis.AxisRow.{AxisRow}
 use Rattle.axis_core.specs.declared.axis.Axis.{Axis}
 
 -- the spell that an axis is in, if it is driven: its last two setpoints, less the offset. This

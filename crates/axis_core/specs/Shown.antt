@@ -1,6 +1,6 @@
 -- What an axis shows of its errors and of its Stop.
 use Rattle.std.specs.Prelude.{◌≡◌, ℕ, ◌≤◌, true, false, Option, None}
-use Rattle.axis_state.specs.declared.state.AxisState.{AxisState}
+use Rattle.plc_types.specs.declared.axis_state.AxisState.{AxisState}
 use Rattle.axis_state.specs.States.{is_error_stop, is_stopping}
 use Rattle.axis_core.specs.declared.axis.Axis.{Axis}
 

@@ -25,8 +25,8 @@ use crate::kinds;
 use crate::look::AxisLook;
 use crate::progress::Progress;
 use crate::steps::{move_to, place_after, taken};
-use axis_state::{AxisState, MOST_OFFSET, MOST_REPORTED};
-use command_pool::{BlockKind, Finish, Wanted};
+use command_pool::{Finish, Wanted};
+use plc_types::{AxisState, BlockKind, MOST_OFFSET, MOST_REPORTED};
 
 // The axis takes a step.
 #[tactic(auto, using(crate::proofs::Moving::small_of))]

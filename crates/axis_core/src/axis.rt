@@ -1,9 +1,8 @@
 // What an axis is between two events.
 
-use axis_state::AxisState;
 use buffer_modes::PendingReset;
 use command_pool::Wanted;
-use kin_core::Limits;
+use plc_types::{AxisState, Limits};
 
 /// The greatest size of a setpoint, in internal units: that of an axis that is not driven is the
 /// place of its drive's count.

@@ -18,9 +18,10 @@ use crate::blocks::reset::await_reset;
 use crate::blocks::targets::known_target;
 use crate::refusing::{Asking, refusal_of};
 use crate::taking_over::{end_all, enter};
-use axis_state::{AxisEvent, AxisState, axis_next, offsets_are_small};
+use axis_state::{AxisEvent, axis_next};
 use buffer_modes::{admit, disown_active, disown_reset};
-use command_pool::{BlockKind, CommandPool, Finish, Notes, Refusal, Wanted, without};
+use command_pool::{CommandPool, Finish, Notes, Refusal, Wanted, without};
+use plc_types::{AxisState, BlockKind, offsets_are_small};
 
 // The velocity command goes on where a gear or a cam is left.
 #[tactic(auto, unfolding(crate::specs::Cores::axis_under_by))]

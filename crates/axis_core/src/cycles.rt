@@ -1,7 +1,7 @@
 // The order within a cycle of an axis.
 
 ghost use Rattle.std.specs.Prelude.{◌≡◌, ◌<◌, ◌≤◌, ◌≤ℤ◌, ◌-ℤ◌, ◌&&◌, true, [], length, slice_set, unsigned_abs, pos};
-ghost use Rattle.axis_state.specs.Counts.{count_of, IsCount};
+ghost use Rattle.plc_types.specs.Counts.{count_of, IsCount};
 ghost use Rattle.command_pool.specs.Waiting.{queue_of};
 ghost use Rattle.axis_core.specs.AxisKept.{IsCoreKept, IsLook};
 ghost use Rattle.axis_core.specs.Cores.{core_at};
@@ -16,14 +16,14 @@ use crate::blocks::reset::reset;
 use crate::driving::is_driven;
 use crate::look::AxisLook;
 use crate::taking_over::end_by;
-use axis_state::{
-    AxisRow, DriveIn, DriveOut, MOST_COUNTED, counts_are_read_back, homing_keeps_counts,
-    offsets_are_small, setpoints_have_counts, target_count,
-};
 use buffer_modes::ends_tell_their_owners;
-use cia402_machine::{CYCLIC_SYNCHRONOUS_POSITION, ENABLE_OPERATION, next_controlword, state_of};
+use cia402_machine::{ENABLE_OPERATION, next_controlword, state_of};
 use command_pool::{CommandPool, Notes};
 use kin_core::{braking_steps_are_only_cut, standing_is_kept, taken_steps_keep};
+use plc_types::{
+    AxisRow, CYCLIC_SYNCHRONOUS_POSITION, DriveIn, DriveOut, MOST_COUNTED, counts_are_read_back,
+    homing_keeps_counts, offsets_are_small, setpoints_have_counts, target_count,
+};
 
 // The drive's count, which has 32 bits.
 fn reported(input: &DriveIn) -> i32

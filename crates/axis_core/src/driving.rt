@@ -2,7 +2,7 @@
 
 ghost use Rattle.motion_numbers.specs.Ranges as ranges;
 ghost use Rattle.cia402_machine.specs.Statusword.{state_of_word};
-ghost use Rattle.axis_state.specs.Counts.{place_of};
+ghost use Rattle.plc_types.specs.Counts.{place_of};
 ghost use Rattle.std.specs.Ordering.{int_eq};
 ghost use Rattle.std.specs.Prelude.{◌≡◌, ◌≤◌, ◌<◌, unsigned_abs, not, ◌&&◌};
 ghost use Rattle.axis_state.specs.Diagram.{IsFrom};
@@ -12,9 +12,11 @@ ghost use Rattle.axis_core.specs.Kept.{HasDrive};
 
 use crate::axis::Axis;
 use crate::blocks::power::{enabled_from, is_powered};
-use axis_state::{AxisState, DriveIn, MOST_REPORTED, place};
-use cia402_machine::{CYCLIC_SYNCHRONOUS_POSITION, DriveState, state_of};
+use cia402_machine::state_of;
 use motion_numbers::is_outside;
+use plc_types::{
+    AxisState, CYCLIC_SYNCHRONOUS_POSITION, DriveIn, DriveState, MOST_REPORTED, place,
+};
 
 /// DriveFault: the drive reads Fault or Fault reaction active.
 const DRIVE_FAULT: u16 = 101;

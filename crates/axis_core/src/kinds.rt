@@ -16,7 +16,8 @@ use crate::progress::Progress;
 use crate::reason::Reason;
 use crate::steps::taken;
 use axis_state::AxisEvent;
-use command_pool::{BlockKind, Finish, Wanted};
+use command_pool::{Finish, Wanted};
+use plc_types::BlockKind;
 
 /// The reasons against which a kind is tested, in their order.
 pub fn tests_of(kind: BlockKind) -> &'static [Reason]

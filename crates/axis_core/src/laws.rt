@@ -10,22 +10,23 @@ ghost use Rattle.axis_core.specs.Demands.{IsMade, asked_in};
 ghost use Rattle.axis_core.specs.Led.{HasCommand, StaysLed};
 ghost use Rattle.axis_core.specs.Drives.{answer_error_of};
 ghost use Rattle.axis_core.specs.Steps.{is_safe_step, taken_step_in};
-ghost use Rattle.axis_state.specs.declared.state.AxisState.TheVariants as state;
-ghost use Rattle.kin_core.specs.Admissible.{AreLimits, IsKept, IsSafe, IsTakenStep};
+ghost use Rattle.plc_types.specs.declared.axis_state.AxisState.TheVariants as state;
+ghost use Rattle.plc_types.specs.Limits.{AreLimits};
+ghost use Rattle.kin_core.specs.Admissible.{IsKept, IsSafe, IsTakenStep};
 ghost use Rattle.axis_core.specs.Owners.{core_without_owner};
 ghost use Rattle.axis_core.specs.Refusals.{Asked};
 ghost use Rattle.axis_core.specs.Rows.{KeepsSpell, Stays};
 ghost use Rattle.axis_core.specs.Shown.{IsShown};
 ghost use Rattle.axis_core.specs.blocks.Path.{axis_on_path};
 ghost use Rattle.axis_core.specs.declared.look.AxisLook.{AxisLook};
-ghost use Rattle.axis_state.specs.Counts.{IsCount};
-ghost use Rattle.axis_state.specs.declared.definition.AxisDef.{AxisDef};
+ghost use Rattle.plc_types.specs.Counts.{IsCount};
+ghost use Rattle.plc_types.specs.declared.axis.AxisDef.{AxisDef};
 ghost use Rattle.axis_core.specs.declared.axis.Axis.{Axis};
 
-use axis_state::{
+use kin_core::{braking_steps_are_only_cut, standing_is_kept, taken_steps_keep};
+use plc_types::{
     counts_are_read_back, homing_keeps_counts, offsets_are_small, setpoints_have_counts,
 };
-use kin_core::{braking_steps_are_only_cut, standing_is_kept, taken_steps_keep};
 
 /// The invariant of an axis and of the commands that wait for it holds at opening, and after every
 /// call and every cycle, whose row keeps the axis's limits.

@@ -26,11 +26,9 @@ mod steps;
 mod taking_over;
 
 pub use axis::Axis;
-pub use axis_state::{AxisDef, AxisRow, AxisState, DriveIn, DriveOut, Limits};
 pub use buffer_modes::PendingReset;
 pub use command_pool::{
-    BlockKind, BufferMode, CommandPool, Finish, Follow, Note, Notes, OutOfMemory, Rates, Refusal,
-    Wanted,
+    CommandPool, Finish, Follow, Note, Notes, OutOfMemory, Rates, Refusal, Wanted,
 };
 pub use course_laws::{
     blended_moves_end_in_time, courses_end_in_time, moves_are_done_at_their_targets,
@@ -43,4 +41,7 @@ pub use laws::{
 pub use look::{ActiveLook, AxisLook};
 pub use one_axis::AxisCore;
 pub use path_laws::{axes_keep_their_definitions, held_axes_take_no_command, paths_are_followed};
+pub use plc_types::{
+    AxisDef, AxisRow, AxisState, BlockKind, BufferMode, DriveIn, DriveOut, Limits,
+};
 pub use reason::Reason;

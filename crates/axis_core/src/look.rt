@@ -1,7 +1,7 @@
 // What a cycle and the kernel look at.
 
-use axis_state::DriveIn;
 use command_pool::Follow;
+use plc_types::DriveIn;
 
 /// What a cycle brings to an axis.
 #[derive(Clone, Copy)]

@@ -16,9 +16,11 @@ ghost use Rattle.axis_core.specs.Rows.{KeepsSpell};
 
 use crate::axis::Axis;
 use crate::look::{ActiveLook, AxisLook};
-use axis_state::{AxisDef, AxisRow, AxisState, DriveIn, offsets_are_small, setpoints_have_counts};
 use command_pool::{CommandPool, Notes, Refusal, Wanted};
-use kin_core::{Limits, standing_is_kept};
+use kin_core::standing_is_kept;
+use plc_types::{
+    AxisDef, AxisRow, AxisState, DriveIn, Limits, offsets_are_small, setpoints_have_counts,
+};
 use std::marker::Model;
 
 /// One axis: its PLCopen state, its setpoints and its active command; those that wait after it are

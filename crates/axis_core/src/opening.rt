@@ -4,8 +4,8 @@ ghost use Rattle.std.specs.Prelude.{◌≡◌};
 ghost use Rattle.axis_core.specs.Cycles as spec;
 
 use crate::axis::Axis;
-use axis_state::{AxisDef, AxisState};
 use cia402_machine::{DISABLE_VOLTAGE, ENABLE_OPERATION};
+use plc_types::{AxisDef, AxisState};
 
 /// An axis at opening: a ready one is driven, in Standstill, with power on; another is Disabled.
 #[tactic(auto, unfolding(crate::specs::Cycles::axis_at_opening))]

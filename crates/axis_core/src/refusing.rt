@@ -13,9 +13,9 @@ use crate::blocks::targets::known_target;
 use crate::blocks::velocity::least_velocity;
 use crate::kinds::tests_of;
 use crate::reason::Reason;
-use axis_state::{AxisState, MOST_OFFSET};
-use command_pool::{BlockKind, BufferMode, Wanted};
+use command_pool::Wanted;
 use motion_numbers::is_outside;
+use plc_types::{AxisState, BlockKind, BufferMode, MOST_OFFSET};
 
 /// What a command is asked of.
 #[derive(Clone, Copy)]

@@ -16,10 +16,11 @@ ghost use Rattle.axis_core.specs.blocks.Moves.{position_of};
 use crate::axis::{Axis, MOST_TARGET};
 use crate::blocks::halts::hold_by;
 use crate::kinds::event_of;
-use axis_state::{AxisEvent, AxisState, MOST_REPORTED, axis_next};
+use axis_state::{AxisEvent, axis_next};
 use buffer_modes::abort_all;
-use command_pool::{BlockKind, CommandPool, Finish, Notes, Wanted};
+use command_pool::{CommandPool, Finish, Notes, Wanted};
 use motion_numbers::{MOST_NUMBER, is_outside};
+use plc_types::{AxisState, BlockKind, MOST_REPORTED};
 
 /// The error of a move whose target is outside the limits when it becomes active.
 const TARGET_OUTSIDE_AT_START: u16 = 106;

@@ -1,7 +1,7 @@
 -- The axis state diagram.
 use Rattle.std.specs.Prelude.{◌≡◌, ◌≢◌, ◌⊎◌}
-use Rattle.axis_state.specs.declared.state.AxisState.{AxisState}
-use Rattle.axis_state.specs.declared.state.AxisState.TheVariants.{Disabled, Standstill, Homing, Stopping, DiscreteMotion, ContinuousMotion, SynchronizedMotion, ErrorStop}
+use Rattle.plc_types.specs.declared.axis_state.AxisState.{AxisState}
+use Rattle.plc_types.specs.declared.axis_state.AxisState.TheVariants.{Disabled, Standstill, Homing, Stopping, DiscreteMotion, ContinuousMotion, SynchronizedMotion, ErrorStop}
 use Rattle.axis_state.specs.declared.diagram.AxisEvent.{AxisEvent}
 use Rattle.axis_state.specs.declared.diagram.AxisEvent.TheVariants.{Error, PowerOff, DrivenFirst, ResetDriven, ResetNotDriven, HomeAdmitted, HomeDone, DiscreteActive, VelocityActive, FollowOut, FollowActive, StopAdmitted, StopReleased, LastDone, GroupActive, PathRest}
 

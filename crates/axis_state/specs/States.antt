@@ -1,7 +1,7 @@
 -- In which state an axis is (PLCopen Motion Control Part 1, the state diagram).
 use Rattle.std.specs.Prelude.{Bool, true, false}
-use Rattle.axis_state.specs.declared.state.AxisState.{AxisState}
-use Rattle.axis_state.specs.declared.state.AxisState.TheVariants as state
+use Rattle.plc_types.specs.declared.axis_state.AxisState.{AxisState}
+use Rattle.plc_types.specs.declared.axis_state.AxisState.TheVariants as state
 
 -- whether it is Disabled
 abbrev pub is_disabled : AxisState → Bool

@@ -2,9 +2,9 @@
 
 ghost use Rattle.std.specs.Prelude.{◌≡◌};
 ghost use Rattle.axis_state.specs.Diagram.{AxisTransition, IsFrom, next_of};
-ghost use Rattle.axis_state.specs.declared.state.AxisState.{AxisState};
+ghost use Rattle.plc_types.specs.declared.axis_state.AxisState.{AxisState};
 
-use crate::state::AxisState;
+use plc_types::AxisState;
 
 /// What changes the state of an axis (PLCopen Motion Control Part 1, the state diagram).
 #[derive(Clone, Copy, Debug, PartialEq, Eq)]

@@ -3,7 +3,7 @@
 use Rattle.std.proofs.Common.{◌≡◌, ◌<◌, List, length, map, ◌∙◌, subst, arith}
 use Rattle.std.specs.Prelude.{All}
 use Rattle.std.proofs.lemmas.List.{length-map}
-use Rattle.axis_state.specs.Counts.{IsCount}
+use Rattle.plc_types.specs.Counts.{IsCount}
 use Rattle.bench_text.specs.BenchState.{BenchState, IsBench}
 use Rattle.drive_sim.specs.Sim.{DriveSim}
 use Rattle.machine_drives.proofs.EndsHeld.{ends-held}

@@ -2,11 +2,11 @@
 -- for: events_keep_drives_in_step, runs_are_in_step
 use Rattle.std.specs.Prelude.{◌≡◌, refl, ℕ, ◌+◌, ◌⊎◌, Result, Ok, Err, List, [], ◌∷◌, ◌++◌, map}
 use Rattle.std.proofs.Common.{◌∙◌, inl, inr, sym, ap, subst}
-use Rattle.axis_state.specs.declared.definition.AxisRow.{AxisRow}
+use Rattle.plc_types.specs.declared.axis.AxisRow.{AxisRow}
 use Rattle.bench_text.specs.BenchState.{BenchState}
 use Rattle.drive_sim.specs.Sim.{DriveSim}
 use Rattle.drive_sim.specs.Steps.{answer_of}
-use Rattle.group_state.specs.declared.state.GroupRow.{GroupRow}
+use Rattle.plc_types.specs.declared.group.GroupRow.{GroupRow}
 use Rattle.motion_history.specs.Columns.{rows_in}
 use Rattle.motion_history.specs.Entries.{Entry, cycle, cycles_of}
 use Rattle.motion_history.specs.Setup.{Setup}

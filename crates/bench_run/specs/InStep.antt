@@ -1,10 +1,10 @@
 -- The drives of a bench in step with a history. This project's profile.
 use Rattle.std.specs.Prelude.{◌≡◌, ℕ, List, ◌∷◌, ◌++◌, map}
-use Rattle.axis_state.specs.declared.definition.AxisRow.{AxisRow}
+use Rattle.plc_types.specs.declared.axis.AxisRow.{AxisRow}
 use Rattle.bench_text.specs.BenchState.{BenchState}
 use Rattle.drive_sim.specs.Sim.{DriveSim}
 use Rattle.drive_sim.specs.Steps.{answer_of}
-use Rattle.group_state.specs.declared.state.GroupRow.{GroupRow}
+use Rattle.plc_types.specs.declared.group.GroupRow.{GroupRow}
 use Rattle.machine_drives.specs.Drives.{drives_after, drives_at_opening}
 use Rattle.motion_history.specs.Entries.{Entry, cycle}
 use Rattle.motion_history.specs.Setup.{Setup}

@@ -1,13 +1,13 @@
 -- The run of a bench: the history that the events of its file make, with the drives in step.
 use Rattle.std.specs.Prelude.{ℕ, ◌+◌, ◌-◌, ◌==◌, ◌&&◌, Bool, true, false, if◌then◌else◌, Result, Ok, Err, List, [], ◌∷◌, ◌++◌, length, map, replicate}
 use Rattle.std.specs.List.{flat_map}
-use Rattle.axis_state.specs.declared.definition.AxisRow.{AxisRow}
+use Rattle.plc_types.specs.declared.axis.AxisRow.{AxisRow}
 use Rattle.bench_text.specs.BenchState.{BenchState}
 use Rattle.bench_text.specs.declared.bench.BenchLine.{BenchLine}
 use Rattle.bench_text.specs.declared.bench.BenchLine.TheVariants.{Call, Cycles, End}
 use Rattle.drive_sim.specs.Sim.{DriveSim}
 use Rattle.drive_sim.specs.Steps.{answer_of}
-use Rattle.fb_outputs.specs.declared.inputs.Inputs.{Inputs}
+use Rattle.plc_types.specs.declared.inputs.Inputs.{Inputs}
 use Rattle.motion_history.specs.Entries.{Entry, call, cycle, end_of, cycles_of}
 use Rattle.motion_history.specs.Setup.{Setup}
 use Rattle.motion_kernel.specs.calls.Calls.{reply_of}

@@ -13,12 +13,11 @@ ghost use Rattle.bench_run.specs.Run as spec;
 
 use crate::bench::RunFault;
 use bench_text::BenchLine;
-use cia402_machine::{DriveIn, DriveOut};
 use drive_sim::Drive;
-use fb_outputs::{Inputs, Outputs};
 use hot_standby::PrimaryKernel;
 use machine_drives::{answer_all, step_all};
 use motion_history::MOST_AXES;
+use plc_types::{DriveIn, DriveOut, Inputs, Outputs};
 
 /// An answer before it is given.
 const NO_ANSWER: DriveIn = DriveIn {

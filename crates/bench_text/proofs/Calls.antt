@@ -2,7 +2,7 @@
 -- for: read_bench
 use Rattle.std.proofs.Common.{◌≡◌, ℕ, ◌≤◌, Some, Ok, List, [], ◌∷◌, length, refl, sym, ◌∙◌, subst}
 use Rattle.std.specs.Prelude.{◌||◌, ◌==◌, not, slice_get}
-use Rattle.fb_outputs.specs.Inputs.{AreInputs}
+use Rattle.plc_types.specs.Inputs.{AreInputs}
 use Rattle.line_text.specs.Reading.{◌>>=◌}
 use Rattle.line_text.specs.Rules.{broken_unless}
 use Rattle.machine_words.specs.Fit.{AreFit, InputsAreFit}

@@ -1,8 +1,8 @@
 -- What the lines of the machine part leave.
 -- for: read_bench
 use Rattle.std.proofs.Common.{◌≡◌, ℕ, Ok, List, [], ◌∷◌, ◌++◌, refl, sym, ap, subst, lit≤}
-use Rattle.axis_state.specs.declared.definition.AxisDef.{AxisDef}
-use Rattle.kin_core.specs.declared.limits.Limits.{Limits}
+use Rattle.plc_types.specs.declared.axis.AxisDef.{AxisDef}
+use Rattle.plc_types.specs.declared.limits.Limits.{Limits}
 use Rattle.line_text.specs.Reading.{each_of}
 use Rattle.line_text.specs.Rules.{in_range}
 use Rattle.machine_words.specs.Drives.{drive_in}

@@ -1,6 +1,6 @@
 -- What contracts see of a bench. This project's profile.
 use Rattle.std.specs.Prelude.{◌≡◌, ◌≤◌, ◌<◌, List, length, All}
-use Rattle.axis_state.specs.declared.definition.AxisDef.{AxisDef}
+use Rattle.plc_types.specs.declared.axis.AxisDef.{AxisDef}
 use Rattle.motion_history.specs.Calls.{IsCall}
 pub use Rattle.motion_history.specs.Drives.{IsDrive}
 use Rattle.motion_history.specs.Setup.{Setup, IsSetup}

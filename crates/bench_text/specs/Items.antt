@@ -2,7 +2,7 @@
 -- profile.
 use Rattle.std.specs.Prelude.{ℕ, ℤ, Bool, true, false, if◌then◌else◌, codes, Result, Ok, Err, List, [], ◌∷◌, ◌++◌}
 use Rattle.std.specs.Option.{ok_or}
-use Rattle.kin_core.specs.declared.limits.Limits.{Limits}
+use Rattle.plc_types.specs.declared.limits.Limits.{Limits}
 use Rattle.line_text.specs.Numbers.{point_of}
 use Rattle.line_text.specs.Reading.{◌>>=◌, each_of}
 use Rattle.line_text.specs.Rules.{in_range}

@@ -5,10 +5,10 @@ ghost use Rattle.line_text.specs.Reading.{Gives, Takes};
 ghost use Rattle.line_text.specs.Texts.{texts};
 ghost use Rattle.bench_text.specs.Items as spec;
 
-use axis_state::Limits;
 use line_text::{LineFault, says};
 use machine_words::{NO_VALUE, WRONG_COUNT, free_name, number, refusal_of};
 use motion_history::{Builder, TraceVersion};
+use plc_types::Limits;
 
 /// Where an axis stands, in internal units, and whether it is ready.
 #[derive(Clone, Copy)]

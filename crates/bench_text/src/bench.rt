@@ -3,8 +3,8 @@
 ghost use Rattle.std.specs.Prelude.{◌≡◌};
 ghost use Rattle.bench_text.specs.BenchState.{IsBench};
 
-use fb_outputs::Inputs;
 use motion_history::{Config, DriveDefs, TraceVersion};
+use plc_types::Inputs;
 use std::marker::Model;
 
 /// A line of events.

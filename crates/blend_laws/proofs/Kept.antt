@@ -1,7 +1,7 @@
 -- After a taken step a move, and two moves, are under way as before.
 -- for: second_targets_are_never_passed
 use Rattle.std.proofs.Common.{ℤ, ◌+ℤ◌}
-use Rattle.kin_core.specs.declared.limits.Limits.{Limits}
+use Rattle.plc_types.specs.declared.limits.Limits.{Limits}
 use Rattle.kin_core.specs.Laws.{AreTakenSteps}
 use Rattle.command_pool.specs.declared.rates.Rates.{Rates}
 use Rattle.trapezoid_plan.specs.MoveRun.{move_taken_of}

@@ -1,7 +1,8 @@
 -- What the laws of moves and of blends say, as far as the laws of both need it.
 use Rattle.std.specs.Prelude.{◌≡◌, ◌↔◌, ◌⊎◌, ◌+◌, ◌-◌, ◌/◌, ◌≤◌, true, false, ℤ, pos, neg_ℤ, ◌+ℤ◌, ◌-ℤ◌, ◌<ℤ◌, ◌≤ℤ◌, unsigned_abs}
-use Rattle.kin_core.specs.declared.limits.Limits.{Limits}
-use Rattle.kin_core.specs.Admissible.{AreLimits, IsKept}
+use Rattle.plc_types.specs.declared.limits.Limits.{Limits}
+use Rattle.plc_types.specs.Limits.{AreLimits}
+use Rattle.kin_core.specs.Admissible.{IsKept}
 use Rattle.kin_core.specs.Toward.{IsTowards}
 use Rattle.motion_numbers.specs.declared.TheConstants.{MOST_WAY}
 use Rattle.command_pool.specs.declared.rates.Rates.{Rates}

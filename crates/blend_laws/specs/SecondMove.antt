@@ -1,6 +1,6 @@
 -- The second of two moves, after a step that crossed. This project's profile.
 use Rattle.std.specs.Prelude.{ℕ, zero, suc, ℤ, ◌+ℤ◌}
-use Rattle.kin_core.specs.declared.limits.Limits.{Limits}
+use Rattle.plc_types.specs.declared.limits.Limits.{Limits}
 use Rattle.kin_core.specs.Toward.{IsTowards}
 use Rattle.command_pool.specs.declared.rates.Rates.{Rates}
 use Rattle.trapezoid_plan.specs.MoveRun.{move_taken_of}

@@ -1,7 +1,8 @@
 // Laws of moves and blends together: each is the contract of a function that does nothing.
 ghost use Rattle.std.specs.Prelude.{◌≡◌, ℕ, true, ℤ, pos, ◌-ℤ◌, ◌≤ℤ◌};
-ghost use Rattle.kin_core.specs.declared.limits.Limits.{Limits};
-ghost use Rattle.kin_core.specs.Admissible.{AreLimits, IsKept};
+ghost use Rattle.plc_types.specs.declared.limits.Limits.{Limits};
+ghost use Rattle.plc_types.specs.Limits.{AreLimits};
+ghost use Rattle.kin_core.specs.Admissible.{IsKept};
 ghost use Rattle.command_pool.specs.declared.rates.Rates.{Rates};
 ghost use Rattle.command_pool.specs.Rates.{AreRates};
 ghost use Rattle.trapezoid_plan.specs.MoveRun.{IsMoveWithin};

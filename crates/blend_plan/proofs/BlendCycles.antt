@@ -2,7 +2,7 @@
 -- for: crossings_have_the_target_between, blends_go_on_until_they_cross, blends_without_steps_brake
 use Rattle.std.proofs.Common.{◌≡◌, ℕ, zero, suc, ◌-◌, ◌≤◌, ◌<◌, Bool, true, false, int_lt, ℤ, pos, neg_ℤ, ◌+ℤ◌, ◌-ℤ◌, ◌<ℤ◌, ◌≤ℤ◌, unsigned_abs, arith, refl, ◌∙◌, sym, inl, inr}
 use Rattle.std.proofs.lemmas.Int.{ints}
-use Rattle.kin_core.specs.declared.limits.Limits.{Limits}
+use Rattle.plc_types.specs.declared.limits.Limits.{Limits}
 use Rattle.motion_numbers.specs.Run.{run_of}
 use Rattle.command_pool.specs.declared.rates.Rates.{Rates}
 use Rattle.std.proofs.lemmas.Bool.{cond-true, cond-false}

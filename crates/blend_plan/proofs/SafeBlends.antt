@@ -3,8 +3,9 @@
 use Rattle.std.proofs.Common.{◌≡◌, ◌⊎◌, true, false, int_lt, ℤ, pos, neg_ℤ, ◌+ℤ◌, ◌-ℤ◌, ◌≤ℤ◌, unsigned_abs, arith, inl, inr}
 use Rattle.std.specs.Int.{int_max}
 use Rattle.std.proofs.lemmas.Int.{ints, clamps}
-use Rattle.kin_core.specs.declared.limits.Limits.{Limits}
-use Rattle.kin_core.specs.Admissible.{AreLimits, IsKept, IsSafe}
+use Rattle.plc_types.specs.declared.limits.Limits.{Limits}
+use Rattle.plc_types.specs.Limits.{AreLimits}
+use Rattle.kin_core.specs.Admissible.{IsKept, IsSafe}
 use Rattle.motion_numbers.specs.Run.{run_of}
 use Rattle.command_pool.specs.declared.rates.Rates.{Rates}
 use Rattle.std.proofs.lemmas.Bool.{cond-true, cond-false}

@@ -1,6 +1,6 @@
 -- The taken steps while a blend applies, and where they cross.
 use Rattle.std.specs.Prelude.{◌≡◌, ◌⊎◌, ℕ, zero, suc, Bool, true, ℤ, pos, neg_ℤ, ◌+ℤ◌, ◌-ℤ◌, ◌≤ℤ◌, int_lt, if◌then◌else◌}
-use Rattle.kin_core.specs.declared.limits.Limits.{Limits}
+use Rattle.plc_types.specs.declared.limits.Limits.{Limits}
 use Rattle.kin_core.specs.Taken.{taken_step_of}
 use Rattle.command_pool.specs.declared.rates.Rates.{Rates}
 use Rattle.blend_plan.specs.Blends.{LieAhead, BlendApplies}

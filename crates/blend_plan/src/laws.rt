@@ -1,8 +1,9 @@
 // Laws of a blend's steps: each is the contract of a function that does nothing.
 ghost use Rattle.std.specs.Prelude.{◌≡◌, ◌↔◌, true, ℤ, pos, ◌+ℤ◌, ◌-ℤ◌, ◌≤ℤ◌, unsigned_abs};
 ghost use Rattle.std.specs.Int.{int_max};
-ghost use Rattle.kin_core.specs.declared.limits.Limits.{Limits};
-ghost use Rattle.kin_core.specs.Admissible.{AreLimits, IsKept, IsSafe};
+ghost use Rattle.plc_types.specs.declared.limits.Limits.{Limits};
+ghost use Rattle.plc_types.specs.Limits.{AreLimits};
+ghost use Rattle.kin_core.specs.Admissible.{IsKept, IsSafe};
 ghost use Rattle.motion_numbers.specs.Run.{run_of};
 ghost use Rattle.command_pool.specs.declared.rates.Rates.{Rates};
 ghost use Rattle.command_pool.specs.Rates.{AreRates};

@@ -3,8 +3,8 @@
 use Rattle.std.specs.Prelude.{ℕ, Bool, true, false, not, ◌&&◌, ◌||◌, if◌then◌else◌, Option, Some, None, is_some, is_none, nat_eq, List, [], ◌∷◌, ◌++◌, length}
 use Rattle.command_pool.specs.declared.ending.Finish.{Finish}
 use Rattle.command_pool.specs.declared.ending.Finish.TheVariants as finish
-use Rattle.command_pool.specs.declared.kind.BufferMode.{BufferMode}
-use Rattle.command_pool.specs.declared.kind.BufferMode.TheVariants as mode
+use Rattle.plc_types.specs.declared.kind.BufferMode.{BufferMode}
+use Rattle.plc_types.specs.declared.kind.BufferMode.TheVariants as mode
 use Rattle.command_pool.specs.declared.notes.Note.{Note}
 use Rattle.command_pool.specs.declared.wanted.Wanted.{Wanted}
 use Rattle.command_pool.specs.Waiting.{queue_of, note_of, notes_of}

@@ -4,7 +4,8 @@ ghost use Rattle.std.specs.Prelude.{◌≡◌, ◌↔◌, ◌<◌, ◌≤◌, �
 ghost use Rattle.command_pool.specs.Waiting.{queue_of};
 ghost use Rattle.buffer_modes.specs.Queue.{commands, is_aborting, is_full, is_active_at_once, admitted, noted, end_notes, active_note, follower};
 
-use command_pool::{BufferMode, CommandPool, Finish, Notes, Wanted};
+use command_pool::{CommandPool, Finish, Notes, Wanted};
+use plc_types::BufferMode;
 
 /// A command is active and eight wait, so that no other can wait after them.
 #[derive(Clone, Copy, Debug, PartialEq, Eq)]

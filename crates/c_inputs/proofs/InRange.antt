@@ -4,11 +4,11 @@ use Rattle.std.proofs.Common.{◌≡◌, ℕ, zero, suc, ◌-◌, ◌<◌, ◌�
 use Rattle.std.specs.Prelude.{pos, replicate, slice_index_or, unsigned_abs, if◌then◌else◌, Some}
 use Rattle.std.proofs.lemmas.Bool.{cases_lt}
 use Rattle.motion_numbers.specs.declared.TheConstants.{MOST_NUMBER}
-use Rattle.command_pool.specs.declared.kind.BlockKind.{BlockKind}
-use Rattle.command_pool.specs.declared.kind.BufferMode.{BufferMode}
-use Rattle.command_pool.specs.declared.kind.BufferMode.TheVariants.{Aborting}
-use Rattle.fb_outputs.specs.Inputs.{AreInputs, IsTaken, takes}
-use Rattle.fb_outputs.specs.declared.inputs.Input.TheVariants.{Position, Velocity, Acceleration, Deceleration, Jerk, Mode, Master, Numerator, Denominator, Table}
+use Rattle.plc_types.specs.declared.kind.BlockKind.{BlockKind}
+use Rattle.plc_types.specs.declared.kind.BufferMode.{BufferMode}
+use Rattle.plc_types.specs.declared.kind.BufferMode.TheVariants.{Aborting}
+use Rattle.plc_types.specs.Inputs.{AreInputs, IsTaken, takes}
+use Rattle.plc_types.specs.declared.inputs.Input.TheVariants.{Position, Velocity, Acceleration, Deceleration, Jerk, Mode, Master, Numerator, Denominator, Table}
 use Rattle.machine_words.specs.Positions.{no_positions, positions_from}
 use Rattle.machine_words.proofs.Zeros.{zeros-at}
 use Rattle.c_inputs.specs.Given.{inputs_in, mode_given, positions_in}

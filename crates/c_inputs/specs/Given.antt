@@ -1,12 +1,12 @@
 -- The inputs that a C program's struct gives a call of a block. This project's profile.
 use Rattle.std.specs.Prelude.{ℕ, ℤ, pos, Bool, not, if◌then◌else◌, nat_eq, Option, Some, None, List, [], ◌∷◌, take, slice_get}
 use Rattle.std.specs.Option.{option_map}
-use Rattle.command_pool.specs.declared.kind.BlockKind.{BlockKind}
-use Rattle.command_pool.specs.declared.kind.BufferMode.{BufferMode}
-use Rattle.command_pool.specs.declared.kind.BufferMode.TheVariants.{Aborting, Buffered, BlendingLow, BlendingPrevious, BlendingNext, BlendingHigh}
-use Rattle.fb_outputs.specs.Inputs.{takes}
-use Rattle.fb_outputs.specs.declared.inputs.Input.TheVariants.{Position, Velocity, Acceleration, Deceleration, Jerk, Mode, Master, Numerator, Denominator, Table}
-use Rattle.fb_outputs.specs.declared.inputs.Inputs.{Inputs}
+use Rattle.plc_types.specs.declared.kind.BlockKind.{BlockKind}
+use Rattle.plc_types.specs.declared.kind.BufferMode.{BufferMode}
+use Rattle.plc_types.specs.declared.kind.BufferMode.TheVariants.{Aborting, Buffered, BlendingLow, BlendingPrevious, BlendingNext, BlendingHigh}
+use Rattle.plc_types.specs.Inputs.{takes}
+use Rattle.plc_types.specs.declared.inputs.Input.TheVariants.{Position, Velocity, Acceleration, Deceleration, Jerk, Mode, Master, Numerator, Denominator, Table}
+use Rattle.plc_types.specs.declared.inputs.Inputs.{Inputs}
 use Rattle.machine_words.specs.Positions.{no_positions, positions_from}
 use Rattle.c_inputs.specs.declared.given.MotionInputs.{MotionInputs}
 

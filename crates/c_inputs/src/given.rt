@@ -3,9 +3,8 @@
 ghost use Rattle.std.specs.Prelude.{◌≡◌, if◌then◌else◌};
 ghost use Rattle.c_inputs.specs.Given as spec;
 
-use command_pool::{BlockKind, BufferMode};
-use fb_outputs::{Input, Inputs, MODES, takes};
 use machine_words::positions_from;
+use plc_types::{BlockKind, BufferMode, Input, Inputs, MODES, takes};
 
 /// What a C program gives a call of a block. An input that the block's kind doesn't take isn't
 /// read, whatever stands in it.

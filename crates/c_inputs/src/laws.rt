@@ -1,9 +1,9 @@
 // A law of what is given: the contract of a function that does nothing.
 
 ghost use Rattle.std.specs.Prelude.{◌≡◌, ◌↔◌, ℕ};
-ghost use Rattle.command_pool.specs.declared.kind.BlockKind.{BlockKind};
-ghost use Rattle.command_pool.specs.declared.kind.BufferMode.{BufferMode};
-ghost use Rattle.fb_outputs.specs.Inputs.{AreInputs};
+ghost use Rattle.plc_types.specs.declared.kind.BlockKind.{BlockKind};
+ghost use Rattle.plc_types.specs.declared.kind.BufferMode.{BufferMode};
+ghost use Rattle.plc_types.specs.Inputs.{AreInputs};
 ghost use Rattle.c_inputs.specs.Given.{inputs_in, mode_given};
 ghost use Rattle.c_inputs.specs.Ranges.{AreInRange};
 ghost use Rattle.c_inputs.specs.declared.given.MotionInputs.{MotionInputs};

@@ -6,7 +6,7 @@ use Rattle.std.specs.Prelude.{not}
 use Rattle.std.specs.List.{Contains}
 use Rattle.std.specs.Option.{option_to_list}
 use Rattle.std.proofs.lemmas.List.Elements.{Contains-append_cases, Contains-append_left, Contains-append_right}
-use Rattle.axis_state.specs.declared.definition.AxisRow.{AxisRow}
+use Rattle.plc_types.specs.declared.axis.AxisRow.{AxisRow}
 use Rattle.cam_switch.specs.Columns.{on_at}
 use Rattle.cam_switch.specs.Edges.{IsEdgeOf, edge_by, edge_of, edges_at, edges_to}
 use Rattle.cam_switch.specs.Laws.{EdgesAreAsSaid}

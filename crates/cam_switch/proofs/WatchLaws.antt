@@ -2,7 +2,7 @@
 -- for: watches_go_on
 use Rattle.std.proofs.Common.{◌≡◌, ℕ, zero, suc, Some, List, [], ◌∷◌, ◌++◌, take, refl, ap, sym, ◌∙◌}
 use Rattle.std.specs.Prelude.{slice_get}
-use Rattle.axis_state.specs.declared.definition.AxisRow.{AxisRow}
+use Rattle.plc_types.specs.declared.axis.AxisRow.{AxisRow}
 use Rattle.cam_switch.specs.Columns.{column, on_at, setpoint_of}
 use Rattle.cam_switch.specs.Edges.{edge_by, edge_of}
 use Rattle.cam_switch.specs.Laws.{WatchesGoOn}

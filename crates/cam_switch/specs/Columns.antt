@@ -1,7 +1,7 @@
 -- The setpoints of an axis, cycle by cycle. This project's profile.
 use Rattle.std.specs.Prelude.{ℕ, Bool, ℤ, pos, List, map, slice_get, take}
 use Rattle.std.specs.Option.{option_map_or}
-use Rattle.axis_state.specs.declared.definition.AxisRow.{AxisRow}
+use Rattle.plc_types.specs.declared.axis.AxisRow.{AxisRow}
 use Rattle.cam_switch.specs.Switches.{is_on}
 use Rattle.cam_switch.specs.declared.switch.Switch.{Switch}
 

@@ -2,7 +2,7 @@
 use Rattle.std.specs.Prelude.{ℕ, zero, suc, Bool, true, false, Option, Some, None, List, [], ◌++◌, length, not, ◌<◌, ◌≡◌}
 use Rattle.std.specs.List.{Contains, flat_map}
 use Rattle.std.specs.Option.{option_to_list}
-use Rattle.axis_state.specs.declared.definition.AxisRow.{AxisRow}
+use Rattle.plc_types.specs.declared.axis.AxisRow.{AxisRow}
 use Rattle.cam_switch.specs.Columns.{on_at}
 use Rattle.cam_switch.specs.declared.edge.Edge.{Edge}
 use Rattle.cam_switch.specs.declared.switch.Switch.{Switch}

@@ -1,7 +1,7 @@
 -- Laws of switches. This project's profile.
 use Rattle.std.specs.Prelude.{◌≡◌, ◌↔◌, ℕ, zero, suc, true, ℤ, Some, List, slice_get}
 use Rattle.std.specs.List.{Contains}
-use Rattle.axis_state.specs.declared.definition.AxisRow.{AxisRow}
+use Rattle.plc_types.specs.declared.axis.AxisRow.{AxisRow}
 use Rattle.cam_switch.specs.Edges.{IsEdgeOf, edge_of, edges_of}
 use Rattle.cam_switch.specs.Switches.{IsOn, is_on}
 use Rattle.cam_switch.specs.Watches.{edge_after, watch_after, watch_at, watch_of}

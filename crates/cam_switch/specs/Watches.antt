@@ -1,6 +1,6 @@
 -- Switches under way, cycle by cycle. This project's profile.
 use Rattle.std.specs.Prelude.{ℕ, false, Option, List}
-use Rattle.axis_state.specs.declared.definition.AxisRow.{AxisRow}
+use Rattle.plc_types.specs.declared.axis.AxisRow.{AxisRow}
 use Rattle.cam_switch.specs.Columns.{on_at, setpoint_of}
 use Rattle.cam_switch.specs.Edges.{edge_by}
 use Rattle.cam_switch.specs.Switches.{is_on_after}

@@ -3,7 +3,7 @@
 ghost use Rattle.std.specs.Prelude.{◌≡◌};
 ghost use Rattle.cam_switch.specs.Edges as spec;
 
-use axis_state::Name;
+use plc_types::Name;
 
 /// A switch goes on or off at a cycle.
 #[derive(Clone, Copy)]

@@ -9,8 +9,8 @@ mod laws;
 mod switch;
 mod watch;
 
-pub use axis_state::{AxisRow, Name};
 pub use edge::Edge;
 pub use laws::{edges_are_as_said, on_is_as_said, watches_go_on};
+pub use plc_types::{AxisRow, Name};
 pub use switch::{MOST_PLACE, MOST_SWITCHES, Switch, is_switch};
 pub use watch::Watch;

@@ -3,7 +3,7 @@
 ghost use Rattle.std.specs.Prelude.{◌≡◌, ◌&&◌, ◌+ℤ◌, ◌-ℤ◌, int_le, ℤ};
 ghost use Rattle.cam_switch.specs.Switches as spec;
 
-use axis_state::Name;
+use plc_types::Name;
 
 /// The most switches of a switch file.
 pub const MOST_SWITCHES: usize = 64;

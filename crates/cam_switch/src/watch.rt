@@ -6,7 +6,7 @@ ghost use Rattle.cam_switch.specs.Watches as spec;
 
 use crate::edge::{Edge, edge_by};
 use crate::switch::{Switch, is_on_after};
-use axis_state::AxisRow;
+use plc_types::AxisRow;
 
 /// A switch, and whether it is on after the cycles so far.
 #[derive(Clone, Copy)]

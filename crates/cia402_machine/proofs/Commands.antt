@@ -9,8 +9,8 @@ use Rattle.cia402_machine.specs.Transitions.{is_faulty}
 use Rattle.cia402_machine.specs.Commanded.{Commanded, Wishes, answered, commanded, commanded_on}
 use Rattle.cia402_machine.proofs.Given.{given, command_of_words-given}
 use Rattle.cia402_machine.specs.declared.command.Command.TheVariants.{DisableVoltage, FaultReset}
-use Rattle.cia402_machine.specs.declared.drive.DriveState.{DriveState}
-use Rattle.cia402_machine.specs.declared.drive.DriveState.TheVariants.{NotReady, SwitchOnDisabled, ReadyToSwitchOn, SwitchedOn, OperationEnabled, QuickStopActive, FaultReactionActive, Fault}
+use Rattle.plc_types.specs.declared.drive.DriveState.{DriveState}
+use Rattle.plc_types.specs.declared.drive.DriveState.TheVariants.{NotReady, SwitchOnDisabled, ReadyToSwitchOn, SwitchedOn, OperationEnabled, QuickStopActive, FaultReactionActive, Fault}
 
 -- a statusword is read back
 pub read-back : (state : DriveState) → state_of_word (status_of_state state) ≡ Some state

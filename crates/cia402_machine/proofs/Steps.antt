@@ -7,8 +7,8 @@ use Rattle.cia402_machine.specs.Controlword.{command_of_words}
 use Rattle.cia402_machine.specs.Transitions.{Cause, transition_of, IsTransition, is_faulty}
 use Rattle.cia402_machine.specs.Steps.{causes_of, stepped_by, drive_step_of}
 use Rattle.cia402_machine.specs.declared.command.Command.{Command}
-use Rattle.cia402_machine.specs.declared.drive.DriveState.{DriveState}
-use Rattle.cia402_machine.specs.declared.drive.DriveState.TheVariants.{NotReady, SwitchOnDisabled, ReadyToSwitchOn, SwitchedOn, OperationEnabled, QuickStopActive, FaultReactionActive, Fault}
+use Rattle.plc_types.specs.declared.drive.DriveState.{DriveState}
+use Rattle.plc_types.specs.declared.drive.DriveState.TheVariants.{NotReady, SwitchOnDisabled, ReadyToSwitchOn, SwitchedOn, OperationEnabled, QuickStopActive, FaultReactionActive, Fault}
 
 -- a state is that before, or the end of a transition by one of some causes
 abbrev pub IsSingle : DriveState → List Cause → DriveState → Type 0

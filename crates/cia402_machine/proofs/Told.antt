@@ -8,8 +8,8 @@ use Rattle.cia402_machine.specs.Words.{fits}
 use Rattle.cia402_machine.specs.Statusword.{pattern_of, first_fitting, state_of_word}
 use Rattle.cia402_machine.proofs.Finite.{all_below, all_below-at, same_bool, same_bool-is, state_number, same_state}
 use Rattle.cia402_machine.proofs.LowBits.{and-low, fits-low}
-use Rattle.cia402_machine.specs.declared.drive.DriveState.{DriveState}
-use Rattle.cia402_machine.specs.declared.drive.DriveState.TheVariants.{NotReady, SwitchOnDisabled, ReadyToSwitchOn, SwitchedOn, OperationEnabled, QuickStopActive, FaultReactionActive, Fault}
+use Rattle.plc_types.specs.declared.drive.DriveState.{DriveState}
+use Rattle.plc_types.specs.declared.drive.DriveState.TheVariants.{NotReady, SwitchOnDisabled, ReadyToSwitchOn, SwitchedOn, OperationEnabled, QuickStopActive, FaultReactionActive, Fault}
 
 -- the state by two masked words, as the code tests them
 abbrev pub by_masks : ℕ → ℕ → Option DriveState

@@ -3,7 +3,7 @@ use Rattle.std.specs.Prelude.{ℕ, Bool, true, false, List, [], ◌∷◌}
 use Rattle.cia402_machine.specs.Statusword.{state_of_word, status_of_state}
 use Rattle.cia402_machine.specs.Controlword.{next_controlword_of}
 use Rattle.cia402_machine.specs.Steps.{drive_step_of}
-use Rattle.cia402_machine.specs.declared.drive.DriveState.{DriveState}
+use Rattle.plc_types.specs.declared.drive.DriveState.{DriveState}
 
 -- a drive and the last controlword that it was given. This project's profile
 pub record Commanded : Type 0 where

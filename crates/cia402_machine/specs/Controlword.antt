@@ -1,8 +1,8 @@
 -- The commands of the controlword, and the controlword that the kernel gives.
 use Rattle.std.specs.Prelude.{ℕ, Bool, true, not, ◌&&◌, List, [], ◌∷◌, Option, None, Some, if◌then◌else◌, codes}
 use Rattle.cia402_machine.specs.Words.{fits}
-use Rattle.cia402_machine.specs.declared.drive.DriveState.{DriveState}
-use Rattle.cia402_machine.specs.declared.drive.DriveState.TheVariants.{SwitchOnDisabled, ReadyToSwitchOn, SwitchedOn, OperationEnabled, Fault}
+use Rattle.plc_types.specs.declared.drive.DriveState.{DriveState}
+use Rattle.plc_types.specs.declared.drive.DriveState.TheVariants.{SwitchOnDisabled, ReadyToSwitchOn, SwitchedOn, OperationEnabled, Fault}
 use Rattle.cia402_machine.specs.declared.command.Command.{Command}
 use Rattle.cia402_machine.specs.declared.command.Command.TheVariants.{Shutdown, SwitchOn, EnableOperation, DisableVoltage, QuickStop, FaultReset}
 

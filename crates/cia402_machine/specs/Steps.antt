@@ -4,7 +4,7 @@ use Rattle.std.specs.Option.{unwrap_or}
 use Rattle.cia402_machine.specs.Controlword.{command_of_words}
 use Rattle.cia402_machine.specs.Transitions.{Cause, AFault, Itself, Asked, transition_of}
 use Rattle.cia402_machine.specs.declared.command.Command.{Command}
-use Rattle.cia402_machine.specs.declared.drive.DriveState.{DriveState}
+use Rattle.plc_types.specs.declared.drive.DriveState.{DriveState}
 
 -- what acts on a drive in a step, the stronger first: a fault, the drive by itself, a command. IEC
 -- 61800-7-201, the finite state automaton; their order within a step is this project's profile

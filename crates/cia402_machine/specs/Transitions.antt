@@ -1,7 +1,7 @@
 -- The transitions of a drive.
 use Rattle.std.specs.Prelude.{◌≡◌, Bool, true, false, Option, None, Some}
-use Rattle.cia402_machine.specs.declared.drive.DriveState.{DriveState}
-use Rattle.cia402_machine.specs.declared.drive.DriveState.TheVariants.{NotReady, SwitchOnDisabled, ReadyToSwitchOn, SwitchedOn, OperationEnabled, QuickStopActive, FaultReactionActive, Fault}
+use Rattle.plc_types.specs.declared.drive.DriveState.{DriveState}
+use Rattle.plc_types.specs.declared.drive.DriveState.TheVariants.{NotReady, SwitchOnDisabled, ReadyToSwitchOn, SwitchedOn, OperationEnabled, QuickStopActive, FaultReactionActive, Fault}
 use Rattle.cia402_machine.specs.declared.command.Command.{Command}
 use Rattle.cia402_machine.specs.declared.command.Command.TheVariants.{Shutdown, SwitchOn, EnableOperation, DisableVoltage, QuickStop, FaultReset}
 

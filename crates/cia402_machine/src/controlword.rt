@@ -4,10 +4,7 @@ ghost use Rattle.std.specs.Prelude.{◌≡◌, ◌&&◌, not, if◌then◌else�
 ghost use Rattle.cia402_machine.specs.Controlword as spec;
 
 use crate::command::has_reset_bit;
-use crate::drive::DriveState;
-
-/// Cyclic synchronous position mode (objects 6060h and 6061h).
-pub const CYCLIC_SYNCHRONOUS_POSITION: i8 = 8;
+use plc_types::DriveState;
 
 /// The controlword that takes the voltage from a drive (object 6040h).
 pub const DISABLE_VOLTAGE: u16 = 0x0000;

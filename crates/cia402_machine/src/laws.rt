@@ -6,8 +6,8 @@ ghost use Rattle.cia402_machine.specs.Controlword.{command_of_words, has_reset_b
 ghost use Rattle.cia402_machine.specs.Transitions.{Cause, IsTransition, is_faulty};
 ghost use Rattle.cia402_machine.specs.Steps.{drive_step_of, causes_of};
 ghost use Rattle.cia402_machine.specs.Commanded.{Commanded, Wishes, commanded, commanded_on};
-ghost use Rattle.cia402_machine.specs.declared.drive.DriveState.{DriveState};
-ghost use Rattle.cia402_machine.specs.declared.drive.DriveState.TheVariants.{SwitchOnDisabled, OperationEnabled, FaultReactionActive, Fault};
+ghost use Rattle.plc_types.specs.declared.drive.DriveState.{DriveState};
+ghost use Rattle.plc_types.specs.declared.drive.DriveState.TheVariants.{SwitchOnDisabled, OperationEnabled, FaultReactionActive, Fault};
 
 /// The statusword of a state is read back as that state.
 pub fn statuswords_are_read_back()

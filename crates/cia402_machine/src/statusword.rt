@@ -1,11 +1,11 @@
 // The statusword: how it is written and read.
 
 ghost use Rattle.std.specs.Prelude.{◌≡◌, ◌↔◌, IsTrue, false};
-ghost use Rattle.cia402_machine.specs.declared.drive.DriveState.{DriveState};
+ghost use Rattle.plc_types.specs.declared.drive.DriveState.{DriveState};
 ghost use Rattle.cia402_machine.specs.Words.{fits};
 ghost use Rattle.cia402_machine.specs.Statusword.{pattern_of, state_of_word, status_of_state};
 
-use crate::drive::DriveState;
+use plc_types::DriveState;
 
 /// The state that a statusword gives (object 6041h), None where it fits no state's pattern.
 pub fn state_of(statusword: u16) -> Option<DriveState>

@@ -6,7 +6,7 @@ ghost use Rattle.cia402_machine.specs.Transitions as faults;
 ghost use Rattle.cia402_machine.specs.Steps as spec;
 
 use crate::command::{Command, command_of};
-use crate::drive::DriveState;
+use plc_types::DriveState;
 
 /// The state after a step in which a drive is given a controlword (IEC 61800-7-201): at most one
 /// transition. A fault comes first, but has no effect on a drive that has one already; then what

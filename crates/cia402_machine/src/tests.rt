@@ -1,9 +1,9 @@
 // The worked rows of drives, and all statuswords.
 
 use crate::{
-    Command, DriveState, ENABLE_OPERATION, command_of, drive_step, next_controlword, state_of,
-    status_of,
+    Command, ENABLE_OPERATION, command_of, drive_step, next_controlword, state_of, status_of,
 };
+use plc_types::DriveState;
 use std::process::Abort;
 
 // What comes to a drive in a cycle, and the words that are seen in it.

@@ -8,8 +8,8 @@ use Rattle.command_core.specs.Changes.{Change, awaits, ends, holds, joins, repla
 use Rattle.command_core.specs.CommandState.{CommandState}
 use Rattle.command_pool.specs.declared.ending.Finish.{Finish}
 use Rattle.command_pool.specs.declared.ending.Finish.TheVariants as finish
-use Rattle.command_pool.specs.declared.kind.BlockKind.{BlockKind}
-use Rattle.command_pool.specs.declared.kind.BlockKind.TheVariants as kind
+use Rattle.plc_types.specs.declared.kind.BlockKind.{BlockKind}
+use Rattle.plc_types.specs.declared.kind.BlockKind.TheVariants as kind
 use Rattle.command_pool.specs.declared.wanted.Wanted.{Wanted}
 use Rattle.group_core.specs.Calls.{asked_in, queue_in, waits_for_rest}
 use Rattle.group_core.specs.Cores.{Core}

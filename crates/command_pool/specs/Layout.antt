@@ -1,7 +1,7 @@
 -- How the lists of a pool are laid out: records in one array, each linked to the next by its place.
 use Rattle.std.specs.Prelude.{ℕ, zero, suc, ◌+◌, ◌-◌, pos, List, [], ◌∷◌, None, length, map, replicate, slice_index, slice_index_or, slice_set, nat_eq, if◌then◌else◌}
-use Rattle.command_pool.specs.declared.kind.BlockKind.TheVariants as kind
-use Rattle.command_pool.specs.declared.kind.BufferMode.TheVariants as mode
+use Rattle.plc_types.specs.declared.kind.BlockKind.TheVariants as kind
+use Rattle.plc_types.specs.declared.kind.BufferMode.TheVariants as mode
 use Rattle.command_pool.specs.declared.linking.Queue.{Queue}
 use Rattle.command_pool.specs.declared.linking.Record.{Record}
 use Rattle.command_pool.specs.declared.wanted.Follow.TheVariants as follow

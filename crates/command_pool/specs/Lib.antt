@@ -1,4 +1,3 @@
-pub mod Kinds
 pub mod Waiting
 pub mod Layout
 pub mod Kept

@@ -1,11 +1,9 @@
-//! Commands of function blocks: their kinds, rates and buffer modes, how a command ends, and the
-//! pool in which commands wait, one list per axis or group. It stands on `motion_numbers` and
-//! `out_of_memory`, and takes its memory when it is opened. Begin at [`Wanted`], which is a
+//! Commands of function blocks: their rates, how a command ends, and the pool in which commands
+//! wait, one list per axis or group. It stands on `plc_types` and `out_of_memory`, and takes its memory when it is opened. Begin at [`Wanted`], which is a
 //! command, and [`CommandPool`].
 #![tactic(auto)]
 
 mod ending;
-mod kind;
 mod linking;
 mod notes;
 mod pool;
@@ -13,7 +11,6 @@ mod rates;
 mod wanted;
 
 pub use ending::{Finish, Refusal};
-pub use kind::{BlockKind, BufferMode};
 pub use notes::{Note, Notes};
 pub use out_of_memory::OutOfMemory;
 pub use pool::CommandPool;

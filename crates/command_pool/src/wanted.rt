@@ -1,7 +1,7 @@
 // A command that is wanted of an axis or a group.
 
-use crate::kind::{BlockKind, BufferMode};
 use crate::rates::Rates;
+use plc_types::{BlockKind, BufferMode};
 
 /// Whom a command follows.
 #[derive(Clone, Copy, Debug, PartialEq, Eq)]

@@ -1,8 +1,8 @@
 -- What contracts see of a line: the drive's job, and what went through its ring. This project's
 -- profile.
 use Rattle.std.specs.Prelude.{List, Bool}
-use Rattle.cia402_machine.specs.declared.drive.DriveIn.{DriveIn}
-use Rattle.cia402_machine.specs.declared.drive.DriveOut.{DriveOut}
+use Rattle.plc_types.specs.declared.drive.DriveIn.{DriveIn}
+use Rattle.plc_types.specs.declared.drive.DriveOut.{DriveOut}
 use Rattle.drive_jobs.specs.declared.drive_job.DriveJob.{DriveJob}
 
 -- the job that was started, the outputs that its drive was given, the answers that were taken, and

@@ -1,8 +1,8 @@
 -- What a drive's log gives. This project's profile.
 use Rattle.std.specs.Prelude.{◌≡◌, suc, List, length}
 use mathlib.Core.List.{IsPrefix}
-use Rattle.cia402_machine.specs.declared.drive.DriveIn.{DriveIn}
-use Rattle.cia402_machine.specs.declared.drive.DriveOut.{DriveOut}
+use Rattle.plc_types.specs.declared.drive.DriveIn.{DriveIn}
+use Rattle.plc_types.specs.declared.drive.DriveOut.{DriveOut}
 use Rattle.drive_sim.specs.Runs.{answers_of, drive_after}
 use Rattle.drive_sim.specs.Sim.{DriveSim}
 use Rattle.drive_sim.specs.Steps.{answer_of}

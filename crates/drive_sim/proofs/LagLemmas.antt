@@ -4,7 +4,7 @@ use Rattle.std.specs.Prelude.{ℕ, zero, suc, ◌≡◌, ◌≤◌, ◌<◌, ◌
 use Rattle.std.proofs.Common.{arith, refl, ap, sym, ◌∙◌, inl, inr, append_assoc, append-nil, length-append, length-drop}
 use Rattle.std.proofs.lemmas.Bool.{cases_lt, cases_Bool, lt-ltb, ltb-true}
 use Rattle.circular_buffer.specs.Buffer.{keep_last}
-use Rattle.cia402_machine.specs.declared.drive.DriveOut.{DriveOut}
+use Rattle.plc_types.specs.declared.drive.DriveOut.{DriveOut}
 use Rattle.drive_sim.specs.Sim.{DriveSim}
 use Rattle.drive_sim.specs.Steps.{keeps_target, kept_after, followed, actual_after, drive_stepped}
 use Rattle.drive_sim.specs.Runs.{drive_after, KeepsAll, lagging}

@@ -2,7 +2,7 @@
 -- for: answers_come_one_cycle_later
 use Rattle.std.specs.Prelude.{ℕ, zero, suc, ◌≡◌, ◌≤◌, ◌<◌, ◌+◌, ◌^◌, ℤ, Bool, true, false, List, [], ◌∷◌, length, take, slice_get, Some}
 use Rattle.std.proofs.Common.{arith, refl}
-use Rattle.cia402_machine.specs.declared.drive.DriveOut.{DriveOut}
+use Rattle.plc_types.specs.declared.drive.DriveOut.{DriveOut}
 use Rattle.drive_sim.specs.Sim.{DriveSim}
 use Rattle.drive_sim.specs.Steps.{opened, answer_of, next_step, drive_stepped}
 use Rattle.drive_sim.specs.Runs.{drive_after, answers_of}

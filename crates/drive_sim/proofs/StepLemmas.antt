@@ -5,8 +5,8 @@ use Rattle.std.specs.Ordering.{int_eq}
 use Rattle.std.proofs.Common.{refl}
 use Rattle.circular_buffer.specs.Buffer.{keep_last}
 use Rattle.cia402_machine.specs.Steps.{drive_step_of}
-use Rattle.cia402_machine.specs.declared.drive.DriveOut.{DriveOut}
-use Rattle.cia402_machine.specs.declared.drive.DriveState.{DriveState}
+use Rattle.plc_types.specs.declared.drive.DriveOut.{DriveOut}
+use Rattle.plc_types.specs.declared.drive.DriveState.{DriveState}
 use Rattle.drive_sim.specs.Faults.{has_step}
 use Rattle.drive_sim.specs.Sim.{DriveSim}
 use Rattle.drive_sim.specs.Steps.{is_enabled, actual_after, kept_after, followed, drive_stepped}

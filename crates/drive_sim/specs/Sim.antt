@@ -1,6 +1,6 @@
 -- The state of a simulated drive.
 use Rattle.std.specs.Prelude.{ℕ, ℤ, List}
-use Rattle.cia402_machine.specs.declared.drive.DriveState.{DriveState}
+use Rattle.plc_types.specs.declared.drive.DriveState.{DriveState}
 
 -- a simulated drive: its lag and its fault steps; how many steps it made; its state, last
 -- controlword, mode display and actual count; and the last of the targets kept since it is in

@@ -4,10 +4,10 @@ use Rattle.std.specs.Ordering.{int_eq}
 use Rattle.circular_buffer.specs.Buffer.{keep_last}
 use Rattle.cia402_machine.specs.Statusword.{status_of_state}
 use Rattle.cia402_machine.specs.Steps.{drive_step_of}
-use Rattle.cia402_machine.specs.declared.drive.DriveIn.{DriveIn}
-use Rattle.cia402_machine.specs.declared.drive.DriveOut.{DriveOut}
-use Rattle.cia402_machine.specs.declared.drive.DriveState.{DriveState}
-use Rattle.cia402_machine.specs.declared.drive.DriveState.TheVariants.{OperationEnabled, SwitchOnDisabled}
+use Rattle.plc_types.specs.declared.drive.DriveIn.{DriveIn}
+use Rattle.plc_types.specs.declared.drive.DriveOut.{DriveOut}
+use Rattle.plc_types.specs.declared.drive.DriveState.{DriveState}
+use Rattle.plc_types.specs.declared.drive.DriveState.TheVariants.{OperationEnabled, SwitchOnDisabled}
 use Rattle.drive_sim.specs.Faults.{has_step}
 use Rattle.drive_sim.specs.Sim.{DriveSim}
 

@@ -1,7 +1,7 @@
 // Laws of simulated drives: each is the contract of a function that does nothing.
 
 ghost use Rattle.std.specs.Prelude.{◌≡◌, ◌≤◌, ◌<◌, ◌^◌, ℕ, ℤ, Bool, false, List, [], length, map, take, slice_get};
-ghost use Rattle.cia402_machine.specs.declared.drive.DriveOut.{DriveOut};
+ghost use Rattle.plc_types.specs.declared.drive.DriveOut.{DriveOut};
 ghost use Rattle.drive_sim.specs.Sim.{DriveSim};
 ghost use Rattle.drive_sim.specs.Steps.{opened, answer_of, keeps_target, drive_stepped};
 ghost use Rattle.drive_sim.specs.Runs.{drive_after, answers_of, KeepsAll, lagging};

@@ -8,10 +8,10 @@ mod drive;
 mod laws;
 mod steps;
 
-pub use cia402_machine::{DriveIn, DriveOut, DriveState};
 pub use drive::Drive;
 pub use laws::{
     answers_come_one_cycle_later, lags_are_counted_in_kept_targets, other_steps_forget_targets,
     steps_are_counted,
 };
 pub use out_of_memory::OutOfMemory;
+pub use plc_types::{DriveIn, DriveOut, DriveState};

@@ -6,8 +6,8 @@ ghost use Rattle.circular_buffer.specs.Buffer.{buffer, keep_last};
 ghost use Rattle.drive_sim.specs.Faults.{RisesAbove, has_step};
 ghost use Rattle.drive_sim.specs.Steps as spec;
 
-use cia402_machine::{CYCLIC_SYNCHRONOUS_POSITION, DriveState};
 use circular_buffer::HeapCircularBuffer;
+use plc_types::{CYCLIC_SYNCHRONOUS_POSITION, DriveState};
 
 /// Whether a step is one of the fault steps, which rise.
 pub fn has_fault(faults: &[u32], step: u64) -> bool

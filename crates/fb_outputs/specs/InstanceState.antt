@@ -1,7 +1,7 @@
 -- What contracts see of an instance of a function block (PLCopen Motion Control Part 1, general
 -- rules).
 use Rattle.std.specs.Prelude.{Bool}
-use Rattle.command_pool.specs.declared.kind.BlockKind.{BlockKind}
+use Rattle.plc_types.specs.declared.kind.BlockKind.{BlockKind}
 use Rattle.fb_outputs.specs.declared.instance.Progress.{Progress}
 
 -- an instance: its kind, the Execute of its last call, what the last cycle found, and how far its

@@ -5,7 +5,7 @@ use Rattle.command_pool.specs.declared.ending.Finish.{Finish}
 use Rattle.command_pool.specs.declared.ending.Finish.TheVariants as finish
 use Rattle.fb_outputs.specs.InstanceState.{InstanceState}
 use Rattle.fb_outputs.specs.Steps.{is_stop, called, started, finished, with_reached, shown}
-use Rattle.fb_outputs.specs.declared.outputs.Outputs.{Outputs}
+use Rattle.plc_types.specs.declared.outputs.Outputs.{Outputs}
 
 -- at most one of some outputs is true
 abbrev pub AtMostOne : List Bool → Type 0

@@ -5,9 +5,9 @@ ghost use Rattle.fb_outputs.specs.Steps as spec;
 ghost use Rattle.fb_outputs.specs.Steps.{opened, edge_of, called, started, finished, with_reached, outputs_of, shown};
 ghost use Rattle.fb_outputs.specs.Replies.{IsReply, may_hold};
 
-use crate::outputs::Outputs;
 use crate::reply::outputs_now;
-use command_pool::{BlockKind, Finish};
+use command_pool::Finish;
+use plc_types::{BlockKind, Outputs};
 use std::marker::Model;
 
 /// How Execute changed from the last call to this one.

@@ -1,10 +1,8 @@
-// Laws of the replies of instances and of names in texts: each is the contract of a function that
-// does nothing.
+// A law of the replies of instances: the contract of a function that does nothing.
 
 ghost use Rattle.std.specs.Prelude.{◌≡◌, true, List};
 ghost use Rattle.std.specs.List.{AllByRecursion};
-ghost use Rattle.command_pool.specs.declared.kind.BlockKind.{BlockKind};
-ghost use Rattle.fb_outputs.specs.Names.{AreNamed};
+ghost use Rattle.plc_types.specs.declared.kind.BlockKind.{BlockKind};
 ghost use Rattle.fb_outputs.specs.Steps.{opened, outputs_of};
 ghost use Rattle.fb_outputs.specs.Replies.{Happening, IsNumbered, IsReply, after_all, is_error_number, may_hold};
 
@@ -19,9 +17,4 @@ pub fn replies_tell_one_result()
         AllByRecursion IsNumbered happenings →
         (outputs_of (after_all (opened kind) happenings)).error ≡ true →
         is_error_number (outputs_of (after_all (opened kind) happenings)).error_id ≡ true }
-{}
-
-/// The name of a kind of block or of a buffer mode is read as that kind or mode.
-pub fn names_are_read_back()
-    ensures named { AreNamed }
 {}

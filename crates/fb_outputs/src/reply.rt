@@ -5,8 +5,8 @@ ghost use Rattle.fb_outputs.specs.Steps as spec;
 ghost use Rattle.fb_outputs.specs.Steps.{outputs_of};
 
 use crate::instance::{Progress, is_power};
-use crate::outputs::Outputs;
-use command_pool::{BlockKind, Finish};
+use command_pool::Finish;
+use plc_types::{BlockKind, Outputs};
 
 /// The outputs of an instance.
 pub fn outputs_now(kind: BlockKind, execute: bool, reached: bool, progress: Progress) -> Outputs

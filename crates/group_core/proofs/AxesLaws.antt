@@ -2,11 +2,11 @@
 -- for: groups_keep_their_axes
 use Rattle.std.specs.Prelude.{◌≡◌, refl, ℕ, Bool, ◌||◌, ℤ, Option, Some, None, is_none, List, [], ◌∷◌}
 use Rattle.std.proofs.Common.{◌∙◌}
-use Rattle.axis_state.specs.declared.state.AxisState.{AxisState}
+use Rattle.plc_types.specs.declared.axis_state.AxisState.{AxisState}
 use Rattle.buffer_modes.specs.Queue.{is_aborting}
 use Rattle.command_pool.specs.declared.ending.Finish.{Finish}
-use Rattle.command_pool.specs.declared.kind.BlockKind.{BlockKind}
-use Rattle.command_pool.specs.declared.kind.BlockKind.TheVariants as kind
+use Rattle.plc_types.specs.declared.kind.BlockKind.{BlockKind}
+use Rattle.plc_types.specs.declared.kind.BlockKind.TheVariants as kind
 use Rattle.command_pool.specs.declared.wanted.Wanted.{Wanted}
 use Rattle.group_state.specs.Diagram.{next_of}
 use Rattle.group_state.specs.declared.diagram.GroupEvent.TheVariants as event

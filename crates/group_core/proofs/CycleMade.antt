@@ -9,8 +9,8 @@ use Rattle.command_pool.specs.declared.ending.Finish.{Finish}
 use Rattle.command_pool.specs.declared.ending.Finish.TheVariants as finish
 use Rattle.command_pool.specs.declared.notes.Note.{Note}
 use Rattle.command_pool.specs.declared.wanted.Wanted.{Wanted}
-use Rattle.group_state.specs.declared.state.GroupState.{GroupState}
-use Rattle.kin_core.specs.declared.limits.Limits.{Limits}
+use Rattle.plc_types.specs.declared.group.GroupState.{GroupState}
+use Rattle.plc_types.specs.declared.limits.Limits.{Limits}
 use Rattle.group_core.specs.Cores.{Core, core_in, ended_by, failed}
 use Rattle.group_core.specs.Cycles.{answered, cycled, ending_of, group_released, moved, over_at_rest, path_after, path_over, path_released, released}
 use Rattle.group_core.specs.GroupKept.{AreGroupLimits, AreNumbers, IsActive, IsCoreKept, IsCount, IsLook, IsPathOf}

@@ -3,17 +3,17 @@
 -- for: courses_end_in_time, paths_go_on_by_their_steps, lines_lead_to_their_targets and others
 use Rattle.std.specs.Prelude.{◌≡◌, refl, ◌⊎◌, ℕ, Bool, true, false, ℤ, Option, Some, None, List, [], ◌∷◌, ◌++◌, if◌then◌else◌}
 use Rattle.std.proofs.Common.{sym, ap, inl, inr, ◌∙◌}
-use Rattle.axis_state.specs.declared.state.AxisState.{AxisState}
+use Rattle.plc_types.specs.declared.axis_state.AxisState.{AxisState}
 use Rattle.buffer_modes.specs.Queue.{active_note}
 use Rattle.command_pool.specs.declared.ending.Finish.{Finish}
-use Rattle.command_pool.specs.declared.kind.BlockKind.{BlockKind}
-use Rattle.command_pool.specs.declared.kind.BlockKind.TheVariants as kind
+use Rattle.plc_types.specs.declared.kind.BlockKind.{BlockKind}
+use Rattle.plc_types.specs.declared.kind.BlockKind.TheVariants as kind
 use Rattle.command_pool.specs.declared.wanted.Wanted.{Wanted}
 use Rattle.group_state.specs.Diagram.{next_of}
 use Rattle.group_state.specs.declared.diagram.GroupEvent.TheVariants as event
-use Rattle.group_state.specs.declared.state.GroupState.{GroupState}
-use Rattle.group_state.specs.declared.state.GroupState.TheVariants as state
-use Rattle.kin_core.specs.declared.limits.Limits.{Limits}
+use Rattle.plc_types.specs.declared.group.GroupState.{GroupState}
+use Rattle.plc_types.specs.declared.group.GroupState.TheVariants as state
+use Rattle.plc_types.specs.declared.limits.Limits.{Limits}
 use Rattle.group_core.specs.Cores.{Core, ended, ended_by, failed, settled, taken_over}
 use Rattle.group_core.specs.Cycles.{advanced, ending_of, group_released, moved, path_after, released, reset_where}
 use Rattle.group_core.specs.GroupKept.{AreWaiting, IsCoreKept}

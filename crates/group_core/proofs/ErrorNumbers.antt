@@ -3,12 +3,12 @@
 use Rattle.std.specs.Prelude.{refl, ℕ, ℤ, Bool, Option, Some, None, List, [], ◌∷◌, not, ◌&&◌, nat_eq}
 use Rattle.std.proofs.Common.{arith}
 use Rattle.std.proofs.lemmas.Bool.{and_parts}
-use Rattle.axis_state.specs.declared.state.AxisState.{AxisState}
+use Rattle.plc_types.specs.declared.axis_state.AxisState.{AxisState}
 use Rattle.buffer_modes.specs.Queue.{is_active_at_once}
 use Rattle.buffer_modes.specs.declared.reset.PendingReset.{PendingReset}
 use Rattle.command_pool.specs.declared.ending.Finish.{Finish}
-use Rattle.command_pool.specs.declared.kind.BlockKind.{BlockKind}
-use Rattle.command_pool.specs.declared.kind.BlockKind.TheVariants as kind
+use Rattle.plc_types.specs.declared.kind.BlockKind.{BlockKind}
+use Rattle.plc_types.specs.declared.kind.BlockKind.TheVariants as kind
 use Rattle.command_pool.specs.declared.wanted.Wanted.{Wanted}
 use Rattle.group_state.specs.Diagram.{next_of}
 use Rattle.group_state.specs.declared.diagram.GroupEvent.TheVariants as event

@@ -9,16 +9,16 @@ use Rattle.std.proofs.lemmas.Int.{ints, clamps}
 use Rattle.buffer_modes.specs.Queue.{active_note}
 use Rattle.command_pool.specs.declared.ending.Finish.{Finish}
 use Rattle.command_pool.specs.declared.ending.Finish.TheVariants as finish
-use Rattle.command_pool.specs.declared.kind.BlockKind.{BlockKind}
-use Rattle.command_pool.specs.declared.kind.BlockKind.TheVariants as kind
+use Rattle.plc_types.specs.declared.kind.BlockKind.{BlockKind}
+use Rattle.plc_types.specs.declared.kind.BlockKind.TheVariants as kind
 use Rattle.command_pool.specs.declared.wanted.Wanted.{Wanted}
 use Rattle.group_state.specs.Diagram.{IsFrom, next_of}
 use Rattle.group_state.specs.declared.diagram.GroupEvent.TheVariants as event
-use Rattle.group_state.specs.declared.state.GroupState.{GroupState}
-use Rattle.group_state.specs.declared.state.GroupState.TheVariants as state
+use Rattle.plc_types.specs.declared.group.GroupState.{GroupState}
+use Rattle.plc_types.specs.declared.group.GroupState.TheVariants as state
 use Rattle.kin_core.specs.Taken.{taken_step_of}
 use Rattle.kin_core.specs.Toward.{toward_zero}
-use Rattle.kin_core.specs.declared.limits.Limits.{Limits}
+use Rattle.plc_types.specs.declared.limits.Limits.{Limits}
 use Rattle.linear_path.specs.Line.{longest_way_of}
 use Rattle.linear_path.proofs.LineIsPath.{line_between, line_limits_from, line_limits_to}
 use Rattle.linear_path.specs.Path.{AreWithin, IsBetween, limits_at}

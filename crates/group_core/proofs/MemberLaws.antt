@@ -3,9 +3,10 @@
 use Rattle.std.specs.Prelude.{◌≡◌, refl, ℕ, ◌<◌, not, ◌&&◌, nat_eq, ℤ, pos, ◌≤ℤ◌, Option, Some, List}
 use Rattle.std.proofs.Common.{◌∙◌, sym, ap, subst, arith}
 use Rattle.std.proofs.lemmas.Int.{ints}
-use Rattle.kin_core.specs.Admissible.{AreLimits, IsKept, IsSafe, IsTakenStep}
+use Rattle.plc_types.specs.Limits.{AreLimits}
+use Rattle.kin_core.specs.Admissible.{IsKept, IsSafe, IsTakenStep}
 use Rattle.kin_core.specs.Taken.{taken_step_of}
-use Rattle.kin_core.specs.declared.limits.Limits.{Limits}
+use Rattle.plc_types.specs.declared.limits.Limits.{Limits}
 use Rattle.linear_path.specs.Line.{AreInRange, coordinate_of}
 use Rattle.linear_path.proofs.LineIsPath.{line_limits_from, line_limits_to}
 use Rattle.linear_path.specs.Path.{AreAxesLimits, AreWithin, limits_at}

@@ -5,13 +5,13 @@ use Rattle.std.proofs.Common.{arith, sym, inl, inr, subst}
 use Rattle.std.proofs.lemmas.Bool.{cases_eq, or_parts}
 use Rattle.std.proofs.lemmas.Int.{ints}
 use Rattle.command_pool.specs.Rates.{AreRates}
-use Rattle.command_pool.specs.declared.kind.BlockKind.TheVariants as kind
+use Rattle.plc_types.specs.declared.kind.BlockKind.TheVariants as kind
 use Rattle.command_pool.specs.declared.rates.Rates.{Rates}
 use Rattle.group_state.specs.Diagram.{IsFrom}
 use Rattle.group_state.specs.declared.diagram.GroupEvent.TheVariants as event
-use Rattle.group_state.specs.declared.state.GroupState.{GroupState}
-use Rattle.group_state.specs.declared.state.GroupState.TheVariants as state
-use Rattle.kin_core.specs.declared.limits.Limits.{Limits}
+use Rattle.plc_types.specs.declared.group.GroupState.{GroupState}
+use Rattle.plc_types.specs.declared.group.GroupState.TheVariants as state
+use Rattle.plc_types.specs.declared.limits.Limits.{Limits}
 use Rattle.linear_path.specs.Line.{coordinate_of}
 use Rattle.linear_path.specs.Path.{limits_at}
 use Rattle.motion_numbers.specs.Ranges.{is_outside}

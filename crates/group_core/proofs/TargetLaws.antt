@@ -8,18 +8,18 @@ use Rattle.std.proofs.lemmas.Int.{ints}
 use Rattle.buffer_modes.specs.Queue.{is_aborting}
 use Rattle.command_pool.specs.declared.ending.Finish.{Finish}
 use Rattle.command_pool.specs.declared.ending.Finish.TheVariants as finish
-use Rattle.command_pool.specs.declared.kind.BlockKind.{BlockKind}
-use Rattle.command_pool.specs.declared.kind.BlockKind.TheVariants as kind
+use Rattle.plc_types.specs.declared.kind.BlockKind.{BlockKind}
+use Rattle.plc_types.specs.declared.kind.BlockKind.TheVariants as kind
 use Rattle.command_pool.specs.declared.wanted.Wanted.{Wanted}
-use Rattle.kin_core.specs.declared.limits.Limits.{Limits}
+use Rattle.plc_types.specs.declared.limits.Limits.{Limits}
 use Rattle.linear_path.specs.Line.{coordinate_of, longest_way_of, place_between}
 use Rattle.linear_path.proofs.LineIsPath.{line_ends, line_limits_to}
 use Rattle.buffer_modes.specs.Owners.{active_without}
 use Rattle.group_core.specs.Calls.{admitted_by, asked_in, braked_for, commanded, commanded_by, group_without, line_joined, powered_off, queued, waits_for_rest}
 use Rattle.buffer_modes.specs.Fates.{Fate, replaced}
 use Rattle.group_core.specs.Fates.{cycle_fate, ending_fate, is_failing}
-use Rattle.group_state.specs.declared.state.GroupState.{GroupState}
-use Rattle.group_state.specs.declared.state.GroupState.TheVariants as state
+use Rattle.plc_types.specs.declared.group.GroupState.{GroupState}
+use Rattle.plc_types.specs.declared.group.GroupState.TheVariants as state
 use Rattle.group_core.specs.Cores.{Core, ended, ended_by, failed, line_begun, settled_on, taken_over}
 use Rattle.group_core.specs.Cycles.{Advance, advanced, advanced_with, answered, cycled, moved, opening, over_at_rest, path_after, path_released, path_taken, released, step_of, ending_of}
 use Rattle.group_core.specs.GroupKept.{IsCoreKept, IsInState, IsPathOf, is_within}

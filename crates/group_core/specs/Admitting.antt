@@ -1,8 +1,8 @@
 -- What a command asks before it is admitted.
 use Rattle.std.specs.Prelude.{◌≡◌, false}
 use Rattle.buffer_modes.specs.Queue.{is_full}
-use Rattle.command_pool.specs.declared.kind.BlockKind.{BlockKind}
-use Rattle.command_pool.specs.declared.kind.BlockKind.TheVariants as kind
+use Rattle.plc_types.specs.declared.kind.BlockKind.{BlockKind}
+use Rattle.plc_types.specs.declared.kind.BlockKind.TheVariants as kind
 use Rattle.command_pool.specs.declared.wanted.Wanted.{Wanted}
 use Rattle.group_state.specs.Diagram.{IsFrom}
 use Rattle.group_state.specs.declared.diagram.GroupEvent.TheVariants as event

@@ -5,8 +5,8 @@ use Rattle.command_pool.specs.Waiting as waiting
 use Rattle.command_pool.specs.Waiting.{without}
 use Rattle.command_pool.specs.declared.ending.Finish.TheVariants as finish
 use Rattle.command_pool.specs.declared.ending.Refusal.{Refusal}
-use Rattle.command_pool.specs.declared.kind.BlockKind.{BlockKind}
-use Rattle.command_pool.specs.declared.kind.BlockKind.TheVariants as kind
+use Rattle.plc_types.specs.declared.kind.BlockKind.{BlockKind}
+use Rattle.plc_types.specs.declared.kind.BlockKind.TheVariants as kind
 use Rattle.command_pool.specs.declared.wanted.Wanted.{Wanted}
 use Rattle.group_core.specs.Cores.{Core, all_ended, begun, failed, line_begun}
 use Rattle.group_core.specs.Refusals.{Asked, limits_in, number_of, refusal_of}

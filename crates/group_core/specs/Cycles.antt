@@ -4,8 +4,8 @@ use Rattle.command_pool.specs.declared.ending.Finish.{Finish}
 use Rattle.command_pool.specs.declared.wanted.Wanted.{Wanted}
 use Rattle.group_state.specs.Diagram.{next_of}
 use Rattle.group_state.specs.declared.diagram.GroupEvent.TheVariants.{StopReleased}
-use Rattle.group_state.specs.declared.state.GroupRow.{GroupRow}
-use Rattle.group_state.specs.declared.state.GroupState.TheVariants as state
+use Rattle.plc_types.specs.declared.group.GroupRow.{GroupRow}
+use Rattle.plc_types.specs.declared.group.GroupState.TheVariants as state
 use Rattle.kin_core.specs.Taken.{taken_step_of}
 use Rattle.group_core.specs.Cores.{Core, ended_by, failed}
 use Rattle.group_core.specs.Kinds.{ending_by, step_by}

@@ -1,15 +1,15 @@
 -- The invariant of a group on its path and of the commands that wait for it.
 use Rattle.std.specs.Prelude.{◌≡◌, ◌⊎◌, ℕ, ◌<◌, ◌≤◌, Bool, true, false, ℤ, pos, ◌≤ℤ◌, Option, Some, None, is_some, List, [], ◌∷◌, length}
-use Rattle.command_pool.specs.Kinds.{acts_on_group}
+use Rattle.plc_types.specs.Kinds.{acts_on_group}
 use Rattle.command_pool.specs.Rates.{AreRates}
-use Rattle.command_pool.specs.declared.kind.BlockKind.{BlockKind}
-use Rattle.command_pool.specs.declared.kind.BlockKind.TheVariants as kind
-use Rattle.command_pool.specs.declared.kind.BufferMode.TheVariants.{Aborting}
+use Rattle.plc_types.specs.declared.kind.BlockKind.{BlockKind}
+use Rattle.plc_types.specs.declared.kind.BlockKind.TheVariants as kind
+use Rattle.plc_types.specs.declared.kind.BufferMode.TheVariants.{Aborting}
 use Rattle.command_pool.specs.declared.wanted.Wanted.{Wanted}
-use Rattle.group_state.specs.declared.GroupState.{GroupState}
-use Rattle.group_state.specs.declared.GroupState.TheVariants.{GroupDisabled, GroupStandby, GroupMoving, GroupHoming, GroupStopping, GroupErrorStop}
+use Rattle.plc_types.specs.declared.group.GroupState.{GroupState}
+use Rattle.plc_types.specs.declared.group.GroupState.TheVariants.{GroupDisabled, GroupStandby, GroupMoving, GroupHoming, GroupStopping, GroupErrorStop}
 use Rattle.kin_core.specs.Admissible.{IsKept}
-use Rattle.kin_core.specs.declared.limits.Limits.{Limits}
+use Rattle.plc_types.specs.declared.limits.Limits.{Limits}
 use Rattle.linear_path.specs.Line.{AreInRange, coordinate_of}
 use Rattle.linear_path.specs.Path.{AreAxesLimits, AreWithin, limits_at}
 use Rattle.motion_numbers.specs.declared.TheConstants.{MOST_PLACE, MOST_STEP}

@@ -1,13 +1,13 @@
 -- The blocks of a group by their kinds, one row each (PLCopen Motion Control Part 4).
 use Rattle.std.specs.Prelude.{Bool, true, false, not, ℤ, Option, List, []}
 use Rattle.command_pool.specs.declared.ending.Finish.{Finish}
-use Rattle.command_pool.specs.declared.kind.BlockKind.{BlockKind}
-use Rattle.command_pool.specs.declared.kind.BlockKind.TheVariants as kind
+use Rattle.plc_types.specs.declared.kind.BlockKind.{BlockKind}
+use Rattle.plc_types.specs.declared.kind.BlockKind.TheVariants as kind
 use Rattle.command_pool.specs.declared.wanted.Wanted.{Wanted}
 use Rattle.group_state.specs.declared.diagram.GroupEvent.{GroupEvent}
 use Rattle.group_state.specs.declared.diagram.GroupEvent.TheVariants as event
-use Rattle.group_state.specs.declared.state.GroupState.{GroupState}
-use Rattle.group_state.specs.declared.state.GroupState.TheVariants as state
+use Rattle.plc_types.specs.declared.group.GroupState.{GroupState}
+use Rattle.plc_types.specs.declared.group.GroupState.TheVariants as state
 use Rattle.group_core.specs.Tracks.{braking_step_of, line_step_of}
 use Rattle.group_core.specs.blocks.Enable.{disable_tests, enable_tests}
 use Rattle.group_core.specs.blocks.Halts.{halt_ending, halt_tests}

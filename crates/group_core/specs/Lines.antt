@@ -2,7 +2,7 @@
 use Rattle.std.specs.Prelude.{List, [], ◌∷◌, ℤ}
 use Rattle.command_pool.specs.declared.wanted.Wanted.{Wanted}
 use Rattle.group_state.specs.Diagram.{IsFrom}
-use Rattle.group_state.specs.declared.state.GroupState.{GroupState}
+use Rattle.plc_types.specs.declared.group.GroupState.{GroupState}
 use Rattle.linear_path.specs.Line.{AreInRange}
 use Rattle.linear_path.specs.Path.{AreAxesLimits}
 use Rattle.group_core.specs.GroupKept.{IsCount}

@@ -1,7 +1,7 @@
 -- Where the axes of a group stand on its path (PLCopen Motion Control Part 4).
 use Rattle.std.specs.Prelude.{◌≡◌, ℕ, ℤ, List}
 use Rattle.kin_core.specs.Admissible.{IsKept, IsSafe}
-use Rattle.kin_core.specs.declared.limits.Limits.{Limits}
+use Rattle.plc_types.specs.declared.limits.Limits.{Limits}
 use Rattle.linear_path.specs.Path.{limits_at}
 use Rattle.group_core.specs.Tracks.{OnPath, place_on}
 

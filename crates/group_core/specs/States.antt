@@ -1,9 +1,9 @@
 -- In which state a group and its axes are (PLCopen Motion Control Part 4 and Part 1).
 use Rattle.std.specs.Prelude.{Bool, true, false}
-use Rattle.axis_state.specs.declared.state.AxisState.{AxisState}
-use Rattle.axis_state.specs.declared.state.AxisState.TheVariants as axis
-use Rattle.group_state.specs.declared.state.GroupState.{GroupState}
-use Rattle.group_state.specs.declared.state.GroupState.TheVariants as state
+use Rattle.plc_types.specs.declared.axis_state.AxisState.{AxisState}
+use Rattle.plc_types.specs.declared.axis_state.AxisState.TheVariants as axis
+use Rattle.plc_types.specs.declared.group.GroupState.{GroupState}
+use Rattle.plc_types.specs.declared.group.GroupState.TheVariants as state
 
 -- whether a group is in GroupStopping
 abbrev pub is_stopping : GroupState → Bool

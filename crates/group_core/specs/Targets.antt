@@ -1,6 +1,6 @@
 -- The targets of a line, and the path that leads to them (PLCopen Part 4, MC_MoveLinearAbsolute).
 use Rattle.std.specs.Prelude.{◌≡◌, ℕ, ◌<◌, true, Option, Some}
-use Rattle.command_pool.specs.declared.kind.BlockKind.TheVariants as kind
+use Rattle.plc_types.specs.declared.kind.BlockKind.TheVariants as kind
 use Rattle.command_pool.specs.declared.wanted.Wanted.{Wanted}
 use Rattle.linear_path.specs.Line.{coordinate_of}
 use Rattle.group_core.specs.Cores.{Core}

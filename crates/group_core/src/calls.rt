@@ -20,9 +20,10 @@ use crate::refusing::{Asking, refusal_of};
 use crate::states::may_fail;
 use crate::taking_over::{begin, begin_line, beginning, end_all, fail};
 use buffer_modes::admit;
-use command_pool::{BlockKind, BufferMode, CommandPool, Finish, Notes, Refusal, Wanted};
+use command_pool::{CommandPool, Finish, Notes, Refusal, Wanted};
 use kin_core::standing_is_kept;
 use linear_path::LinePath;
+use plc_types::{BlockKind, BufferMode};
 
 /// POWER_OFF: Power is called with Enable false on a member.
 const POWER_OFF: u16 = 102;

@@ -2,8 +2,7 @@
 
 use buffer_modes::PendingReset;
 use command_pool::Wanted;
-use group_state::GroupState;
-use kin_core::Limits;
+use plc_types::{GroupState, Limits};
 
 /// A group, apart from the path that its axes are on.
 #[derive(Clone, Copy)]

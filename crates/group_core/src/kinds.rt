@@ -7,8 +7,8 @@ use crate::blocks::enable::{DISABLE_TESTS, ENABLE_TESTS};
 use crate::blocks::halts::HALT_TESTS;
 use crate::blocks::line::{CIRCLE_TESTS, LINE_TESTS};
 use crate::reason::Reason;
-use command_pool::BlockKind;
-use group_state::{GroupEvent, GroupState};
+use group_state::GroupEvent;
+use plc_types::{BlockKind, GroupState};
 
 /// The reasons against which a kind is tested, in their order.
 pub fn tests_of(kind: BlockKind) -> &'static [Reason]

@@ -17,12 +17,12 @@ ghost use Rattle.group_core.specs.Tracks.{OnPath, braking_step_of, is_moving, li
 ghost use Rattle.group_core.specs.declared.group.Group.{Group};
 ghost use Rattle.group_core.specs.declared.look.GroupLook.{GroupLook};
 ghost use Rattle.group_core.specs.declared.reason.Reason.{Reason};
-ghost use Rattle.kin_core.specs.declared.limits.Limits.{Limits};
+ghost use Rattle.plc_types.specs.declared.limits.Limits.{Limits};
 ghost use Rattle.linear_path.specs.Line.{coordinate_of};
 
-use command_pool::BlockKind;
 use kin_core::{braking_steps_are_only_cut, standing_is_kept, taken_steps_keep};
 use linear_path::{LinePath, steps_along_a_path_are_safe};
+use plc_types::BlockKind;
 use trapezoid_plan::{halts_come_to_rest_in_time, moves_arrive_in_time};
 
 /// The invariant of a group, of its path and of the commands that wait for it holds at opening, and

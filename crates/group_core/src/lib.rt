@@ -22,15 +22,11 @@ mod states;
 mod taking_over;
 mod target_laws;
 
-pub use axis_state::AxisState;
 pub use buffer_modes::PendingReset;
 pub use command_pool::{
-    BlockKind, BufferMode, CommandPool, Finish, Follow, Note, Notes, OutOfMemory, Rates, Refusal,
-    Wanted,
+    CommandPool, Finish, Follow, Note, Notes, OutOfMemory, Rates, Refusal, Wanted,
 };
 pub use group::{Group, GroupOnPath, Motion, Track};
-pub use group_state::{GroupRow, GroupState};
-pub use kin_core::Limits;
 pub use laws::{
     courses_end_in_time, errors_are_those_of_axes, errors_stand_in_error_stop, groups_stay_kept,
     members_keep_their_limits, paths_go_on_by_their_steps,
@@ -41,5 +37,6 @@ pub use one_group::GroupCore;
 pub use path_laws::{
     groups_come_alive_by_enable_and_reset, groups_keep_their_axes, paths_change_by_commands,
 };
+pub use plc_types::{AxisState, BlockKind, BufferMode, GroupRow, GroupState, Limits};
 pub use reason::Reason;
 pub use target_laws::lines_lead_to_their_targets;

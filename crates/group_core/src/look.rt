@@ -2,9 +2,8 @@
 
 ghost use Rattle.std.specs.Prelude.{◌≡◌, ◌≤◌, take};
 
-use axis_state::AxisState;
 use command_pool::Follow;
-use kin_core::Limits;
+use plc_types::{AxisState, Limits};
 
 /// What the members of a group are in a call or a cycle. Of each array the first `count` are of
 /// account, in the group's order; a setpoint after them is 0.

@@ -8,7 +8,8 @@ ghost use Rattle.group_core.specs.GroupKept.{AreNumbers, IsDeceleration};
 ghost use Rattle.group_core.specs.Kinds as kinds;
 ghost use Rattle.group_core.specs.Tracks as spec;
 ghost use Rattle.group_core.specs.Tracks.{IsMotionKept, places_of};
-ghost use Rattle.kin_core.specs.Admissible.{AreLimits, IsKept};
+ghost use Rattle.plc_types.specs.Limits.{AreLimits};
+ghost use Rattle.kin_core.specs.Admissible.{IsKept};
 ghost use Rattle.kin_core.specs.Taken.{taken_step_of};
 ghost use Rattle.motion_numbers.specs.Ranges.{IsStep, IsWay};
 
@@ -16,10 +17,11 @@ use crate::blocks::halts::halt_ending;
 use crate::blocks::line::line_ending;
 use crate::group::{Group, Motion, Track};
 use crate::states::is_error_stop;
-use command_pool::{BlockKind, Finish, Rates, Wanted};
-use kin_core::{Limits, nearest_safe};
+use command_pool::{Finish, Rates, Wanted};
+use kin_core::nearest_safe;
 use linear_path::Path;
 use motion_numbers::{MOST_STEP, MOST_WAY};
+use plc_types::{BlockKind, Limits};
 use trapezoid_plan::{halt_step, move_step};
 
 // The step of the last cycle.

@@ -12,13 +12,13 @@ ghost use Rattle.group_core.specs.Looks as looks;
 ghost use Rattle.group_core.specs.Refusals.{limits_in};
 ghost use Rattle.group_core.specs.Tracks.{OnPath};
 ghost use Rattle.group_core.specs.blocks.Reset.{reset_notes};
-ghost use Rattle.kin_core.specs.declared.limits.Limits.{Limits};
+ghost use Rattle.plc_types.specs.declared.limits.Limits.{Limits};
 
 use crate::group::{Group, GroupOnPath};
 use crate::look::{ActiveLook, GroupLook, GroupStep};
 use command_pool::{CommandPool, Notes, Refusal, Wanted};
-use group_state::{GroupRow, GroupState};
 use linear_path::{LinePath, Path};
+use plc_types::{GroupRow, GroupState};
 use std::marker::Model;
 
 /// One group: its PLCopen state, its path and its active command; those that wait after it are in

@@ -12,9 +12,9 @@ ghost use Rattle.group_core.specs.States.{is_moved};
 ghost use Rattle.group_core.specs.Tracks.{OnPath};
 ghost use Rattle.group_core.specs.declared.group.Group.{Group};
 ghost use Rattle.group_core.specs.declared.look.GroupLook.{GroupLook};
-ghost use Rattle.kin_core.specs.declared.limits.Limits.{Limits};
+ghost use Rattle.plc_types.specs.declared.limits.Limits.{Limits};
 
-use command_pool::BlockKind;
+use plc_types::BlockKind;
 
 /// A group has as many axes after every call, every cycle and every GroupReset as before.
 pub fn groups_keep_their_axes()

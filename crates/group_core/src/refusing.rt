@@ -10,8 +10,9 @@ use crate::kinds::{may_come, tests_of};
 use crate::look::{GroupLook, limits_in, states_in};
 use crate::reason::Reason;
 use crate::states::{any_disabled, any_homing, any_in_error_stop, any_in_stopping, any_moved};
-use command_pool::{BufferMode, Wanted};
+use command_pool::Wanted;
 use motion_numbers::{MOST_STEP, is_outside};
+use plc_types::BufferMode;
 
 /// What a command is asked of.
 #[derive(Clone, Copy)]

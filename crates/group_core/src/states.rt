@@ -5,8 +5,7 @@ ghost use Rattle.std.specs.Prelude.{◌≡◌};
 ghost use Rattle.axis_state.specs.States as axes;
 ghost use Rattle.group_core.specs.States as spec;
 
-use axis_state::AxisState;
-use group_state::GroupState;
+use plc_types::{AxisState, GroupState};
 
 /// Whether the group is in GroupStopping.
 pub fn is_stopping(state: GroupState) -> bool

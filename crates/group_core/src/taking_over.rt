@@ -21,8 +21,9 @@ use crate::kinds::event_of;
 use crate::look::{GroupLook, limits_in};
 use buffer_modes::abort_all;
 use command_pool::{CommandPool, Finish, Notes, Wanted};
-use group_state::{GroupEvent, GroupState, group_next};
+use group_state::{GroupEvent, group_next};
 use linear_path::{LinePath, path_limits};
+use plc_types::GroupState;
 
 /// The active command ends so, and those that wait are aborted.
 pub fn end_all(

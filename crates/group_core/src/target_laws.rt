@@ -13,7 +13,7 @@ ghost use Rattle.group_core.specs.Targets.{EndsAtTargets, IsDoneOn, IsSameWay, I
 ghost use Rattle.group_core.specs.Tracks.{OnPath, place_on};
 ghost use Rattle.group_core.specs.declared.group.Group.{Group};
 ghost use Rattle.group_core.specs.declared.look.GroupLook.{GroupLook};
-ghost use Rattle.kin_core.specs.declared.limits.Limits.{Limits};
+ghost use Rattle.plc_types.specs.declared.limits.Limits.{Limits};
 ghost use Rattle.linear_path.specs.Line.{coordinate_of};
 
 /// The path of an active line leads to its targets: so at opening, and after every call and every

@@ -1,7 +1,7 @@
 -- The group state diagram.
 use Rattle.std.specs.Prelude.{◌≡◌, ◌⊎◌}
-use Rattle.group_state.specs.declared.state.GroupState.{GroupState}
-use Rattle.group_state.specs.declared.state.GroupState.TheVariants.{GroupDisabled, GroupStandby, GroupMoving, GroupStopping, GroupErrorStop}
+use Rattle.plc_types.specs.declared.group.GroupState.{GroupState}
+use Rattle.plc_types.specs.declared.group.GroupState.TheVariants.{GroupDisabled, GroupStandby, GroupMoving, GroupStopping, GroupErrorStop}
 use Rattle.group_state.specs.declared.diagram.GroupEvent.{GroupEvent}
 use Rattle.group_state.specs.declared.diagram.GroupEvent.TheVariants.{Enable, Disable, MoveAdmitted, LastDone, StopAdmitted, StopReleased, MemberError, ResetAllStandstill, ResetElse}
 

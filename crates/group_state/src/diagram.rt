@@ -3,10 +3,10 @@
 ghost use Rattle.std.specs.Prelude.{◌≡◌, ◌≢◌};
 ghost use Rattle.group_state.specs.Diagram.{GroupTransition, IsFrom, next_of};
 ghost use Rattle.group_state.specs.declared.diagram.GroupEvent.{GroupEvent};
-ghost use Rattle.group_state.specs.declared.state.GroupState.{GroupState};
+ghost use Rattle.plc_types.specs.declared.group.GroupState.{GroupState};
 
-use crate::state::GroupState;
 use GroupEvent::*;
+use plc_types::GroupState;
 
 /// What changes the state of a group (PLCopen Motion Control Part 4, the state diagram).
 #[derive(Clone, Copy, Debug, PartialEq, Eq)]

@@ -1,6 +1,7 @@
 // One case for each row of the group state diagram.
 
-use crate::{GroupEvent, GroupState, group_next};
+use crate::{GroupEvent, group_next};
+use plc_types::GroupState;
 
 #[test]
 fn each_row_leads_to_its_state(rt: HostRuntime) {

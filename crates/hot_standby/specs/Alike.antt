@@ -1,6 +1,6 @@
 -- Two kernels that are alike, the second behind a ring. This project's profile.
 use Rattle.std.specs.Prelude.{◌≡◌, ◌≤◌, Option, Some, None, List, take, length}
-use Rattle.cia402_machine.specs.declared.drive.DriveIn.{DriveIn}
+use Rattle.plc_types.specs.declared.drive.DriveIn.{DriveIn}
 use Rattle.motion_kernel.specs.KernelState.{KernelState}
 use Rattle.hot_standby.specs.Events.{IsFit, kernel_after}
 use Rattle.hot_standby.specs.Sides.{FeedSide, StandbySide}

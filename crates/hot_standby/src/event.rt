@@ -1,7 +1,6 @@
 // What is fed to a standby, and what comes of it.
 
-use cia402_machine::DriveIn;
-use fb_outputs::Inputs;
+use plc_types::{DriveIn, Inputs};
 
 /// An event of a kernel, as its first kernel made it.
 #[derive(Clone, Copy, Debug, PartialEq, Eq)]

@@ -5,8 +5,8 @@ ghost use Rattle.hot_standby.specs.Events.{IsFit, MayBeMade};
 ghost use Rattle.motion_history.specs.Calls.{IsCall};
 
 use crate::event::FedEvent;
-use fb_outputs::Inputs;
 use motion_kernel::Kernel;
+use plc_types::Inputs;
 
 // Whether an event fits a kernel.
 pub(crate) fn fits(kernel: &Kernel, event: &FedEvent) -> bool

@@ -5,9 +5,9 @@ ghost use Rattle.hot_standby.specs.Events.{IsFit, kernel_after};
 
 use crate::event::FedEvent;
 use crate::fits::fits;
-use cia402_machine::{DriveIn, DriveOut};
 use motion_history::MOST_AXES;
 use motion_kernel::Kernel;
+use plc_types::{DriveIn, DriveOut};
 
 /// An output before it is given.
 const NO_OUTPUT: DriveOut = DriveOut {

@@ -1,7 +1,7 @@
 // A kernel that a standby may follow. It is used as a kernel is, and is one in every contract.
 
 ghost use Rattle.std.specs.Prelude.{◌≡◌, ◌<◌, ◌≤◌, ◌+◌, ◌-◌, ◌++◌, ◌∷◌, [], IfOk, IsSomeAnd, length, map, slice_get};
-ghost use Rattle.axis_state.specs.declared.definition.AxisRow.{AxisRow};
+ghost use Rattle.plc_types.specs.declared.axis.AxisRow.{AxisRow};
 ghost use Rattle.hot_standby.specs.Alike.{IsCycleWith};
 ghost use Rattle.hot_standby.specs.Events.{opened};
 ghost use Rattle.hot_standby.specs.Primaries.{cut_of};
@@ -14,9 +14,9 @@ ghost use Rattle.motion_kernel.specs.KernelState.{room_of, state_of};
 use crate::event::FedEvent;
 use crate::follower::{Follower, follow, switch_over};
 use crate::opening::open_standby;
-use cia402_machine::{DriveIn, DriveOut};
 use motion_kernel::{Config, Inputs, Kernel, Outputs};
 use out_of_memory::OutOfMemory;
+use plc_types::{DriveIn, DriveOut};
 use std::alloc::Global;
 use std::marker::Model;
 

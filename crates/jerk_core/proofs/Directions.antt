@@ -3,7 +3,8 @@
 use Rattle.std.proofs.Common.{inl, inr, ◌≡◌, ℕ, ◌+◌, ◌-◌, ◌*◌, ◌≤◌, zero, suc, ℤ, pos, ◌+ℤ◌, ◌-ℤ◌, ◌≤ℤ◌, unsigned_abs, List, [], ◌∷◌, arith, refl}
 use Rattle.std.proofs.lemmas.Int.{ints, clamps}
 use Rattle.std.proofs.lemmas.Bool.{cases_lt}
-use Rattle.kin_core.specs.Admissible.{AreLimits, least_step_after, greatest_step_after}
+use Rattle.plc_types.specs.Limits.{AreLimits}
+use Rattle.kin_core.specs.Admissible.{least_step_after, greatest_step_after}
 use Rattle.jerk_core.specs.declared.limits.JerkLimits.{JerkLimits}
 use Rattle.jerk_core.specs.Braking.{braked_of}
 use Rattle.jerk_core.specs.Rates.{IsKeptBy, IsSafeBy}

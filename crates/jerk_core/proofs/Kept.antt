@@ -2,7 +2,8 @@
 -- for: is_kept, kept_is_stoppable, kept_motions_go_on and others
 use Rattle.std.proofs.Common.{inl, inr, ◌≡◌, ◌⊎◌, ℕ, ◌+◌, ◌≤◌, ℤ, pos, ◌-ℤ◌, ◌≤ℤ◌, unsigned_abs, List, [], ◌∷◌, arith, refl}
 use Rattle.std.proofs.lemmas.Int.{ints, clamps}
-use Rattle.kin_core.specs.Admissible.{AreLimits, IsStoppable, IsKept, StepMayFollow, least_step_after, greatest_step_after}
+use Rattle.plc_types.specs.Limits.{AreLimits}
+use Rattle.kin_core.specs.Admissible.{IsStoppable, IsKept, StepMayFollow, least_step_after, greatest_step_after}
 use Rattle.kin_core.proofs.Stops.{stoppable_after}
 use Rattle.jerk_core.specs.declared.limits.JerkLimits.{JerkLimits}
 use Rattle.jerk_core.specs.Admissible.{AreJerkLimits, StopsByJerk, AllRise, AllFall, IsStoppableByJerk, IsKeptByJerk, IsKeptUp, IsKeptDown}

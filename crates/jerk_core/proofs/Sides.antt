@@ -5,7 +5,7 @@ use Rattle.std.proofs.lemmas.Int.{ints, clamps, by_lt_z}
 use Rattle.motion_numbers.specs.declared.TheConstants.{MOST_STEP}
 use Rattle.motion_numbers.specs.Run.{run_of}
 use Rattle.motion_numbers.proofs.Runs.{run_ge}
-use Rattle.kin_core.specs.Admissible.{AreLimits}
+use Rattle.plc_types.specs.Limits.{AreLimits}
 use Rattle.jerk_core.specs.declared.limits.JerkLimits.{JerkLimits}
 use Rattle.jerk_core.specs.declared.rates.JerkRates.{JerkRates}
 use Rattle.jerk_core.specs.declared.motions.Motion.{Motion}

@@ -2,7 +2,8 @@
 -- be stopped. This project's profile.
 use Rattle.std.specs.Prelude.{◌≡◌, ◌⊎◌, ◌≤◌, ℤ, pos, ◌+ℤ◌, ◌-ℤ◌, ◌≤ℤ◌, unsigned_abs, List, [], ◌∷◌}
 use Rattle.motion_numbers.specs.declared.TheConstants.{MOST_STEP}
-use Rattle.kin_core.specs.Admissible.{AreLimits, IsAdmissible, StepMayFollow}
+use Rattle.plc_types.specs.Limits.{AreLimits}
+use Rattle.kin_core.specs.Admissible.{IsAdmissible, StepMayFollow}
 use Rattle.jerk_core.specs.declared.limits.JerkLimits.{JerkLimits}
 use Rattle.jerk_core.specs.declared.rates.JerkRates.{JerkRates}
 use Rattle.jerk_core.specs.Rates.{IsKeptBy}

@@ -1,5 +1,5 @@
 // The limits of an axis with limited jerk.
-use kin_core::Limits;
+use plc_types::Limits;
 
 /// The limits of an axis whose change of acceleration is limited too, in internal units.
 #[derive(Clone, Copy, Debug, PartialEq, Eq)]

@@ -5,7 +5,7 @@ use Rattle.std.proofs.Common.{arith, subst}
 use Rattle.axis_core.specs.AxisKept.{AreWaiting, IsWaiting}
 use Rattle.command_pool.specs.Layout.{unused}
 use Rattle.command_pool.specs.declared.wanted.Wanted.{Wanted}
-use Rattle.kin_core.specs.declared.limits.Limits.{Limits}
+use Rattle.plc_types.specs.declared.limits.Limits.{Limits}
 use Rattle.motion_kernel.proofs.Lists.{get_is}
 
 -- all may wait where each may

@@ -11,8 +11,8 @@ use Rattle.group_core.specs.GroupKept as group
 use Rattle.group_core.specs.GroupKept.{AreGroupLimits, AreWaiting, IsPathOf}
 use Rattle.group_core.specs.Tracks.{OnPath}
 use Rattle.group_core.specs.declared.group.Group.{Group}
-use Rattle.group_state.specs.declared.state.GroupState.TheVariants.{GroupMoving}
-use Rattle.kin_core.specs.declared.limits.Limits.{Limits}
+use Rattle.plc_types.specs.declared.group.GroupState.TheVariants.{GroupMoving}
+use Rattle.plc_types.specs.declared.limits.Limits.{Limits}
 use Rattle.linear_path.specs.Path.{limits_at}
 use Rattle.motion_history.specs.AxisRanges.{AreAxisRanges}
 use Rattle.motion_history.specs.Configurations.{IsSound}

@@ -2,7 +2,7 @@
 -- for: is_machine_kept
 use Rattle.std.specs.Prelude.{◌≡◌, ℕ, zero, suc, ◌+◌, ◌<◌, List, [], ◌∷◌, length, map, slice_index_or, slice_set, take}
 use Rattle.std.proofs.Common.{arith, ap}
-use Rattle.kin_core.specs.declared.limits.Limits.{Limits}
+use Rattle.plc_types.specs.declared.limits.Limits.{Limits}
 
 next : (f : ℕ → Limits) (ls : List Limits) (ms : List ℕ) (i : ℕ) (x : Limits) → i < length ls → i < length ms →
     take i ls ≡ map f (take i ms) → x ≡ f (slice_index_or ms i 0) → take (suc i) (slice_set ls i x) ≡ map f (take (suc i) ms)

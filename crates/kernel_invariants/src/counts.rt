@@ -1,12 +1,12 @@
 // Whether places have counts of the drive.
 
 ghost use Rattle.std.specs.Prelude.{◌≡◌, ◌↔◌, IsTrue, ◌≤◌, ◌^◌, ◌-◌, pos, neg_ℤ, ◌≤ℤ◌, unsigned_abs};
-ghost use Rattle.axis_state.specs.Counts.{HasCounts, IsCount, count_of};
+ghost use Rattle.plc_types.specs.Counts.{HasCounts, IsCount, count_of};
 
-use kin_core::Limits;
+use plc_types::Limits;
 
 // The count of a place, in whole increments from an offset.
-#[tactic(auto, unfolding(axis_state::specs::Counts::count_of))]
+#[tactic(auto, unfolding(plc_types::specs::Counts::count_of))]
 fn count(place: i64, offset: i128, inc: i64) -> i128
     requires increment { pos 1 ≤ℤ inc }
     requires small { unsigned_abs offset ≤ 2 ^ 66 }

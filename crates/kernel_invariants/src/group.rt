@@ -6,7 +6,7 @@ ghost use Rattle.command_pool.specs.declared.wanted.Wanted.{Wanted};
 ghost use Rattle.group_core.specs.GroupKept.{AreGroupLimits, AreWaiting, IsCount, IsGroupKept, IsPathOf, IsWaiting};
 ghost use Rattle.group_core.specs.Seen.{on_path};
 ghost use Rattle.group_core.specs.Tracks.{OnPath};
-ghost use Rattle.group_state.specs.declared.state.GroupState.TheVariants.{GroupMoving};
+ghost use Rattle.plc_types.specs.declared.group.GroupState.TheVariants.{GroupMoving};
 ghost use Rattle.kernel_invariants.specs.Parts.{IsOrdered};
 
 pub mod command;

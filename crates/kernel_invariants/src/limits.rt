@@ -2,11 +2,13 @@
 
 ghost use Rattle.std.specs.Prelude.{◌≡◌, ◌↔◌, IsTrue, pos, ◌≤ℤ◌, ◌-ℤ◌, unsigned_abs};
 ghost use Rattle.axis_core.specs.Ranges.{IsBetween};
-ghost use Rattle.kin_core.specs.Admissible.{AreLimits, IsKept};
+ghost use Rattle.plc_types.specs.Limits.{AreLimits};
+ghost use Rattle.kin_core.specs.Admissible.{IsKept};
 ghost use Rattle.motion_numbers.specs.Ranges.{IsPlace};
 
-use kin_core::{Limits, stoppable};
+use kin_core::stoppable;
 use motion_numbers::{MOST_PLACE, MOST_STEP, MOST_WAY};
+use plc_types::Limits;
 
 // Whether a number lies between two others.
 pub fn is_between(least: i64, z: i64, most: i64) -> bool

@@ -3,7 +3,7 @@
 ghost use Rattle.std.specs.Prelude.{◌≡◌, ◌≢◌, ◌↔◌, ◌<◌, ◌≤◌, IsTrue, ℕ, None, Some, length, slice_get};
 ghost use Rattle.axis_core.specs.Led as led;
 ghost use Rattle.axis_state.specs.States as axis_states;
-ghost use Rattle.command_pool.specs.declared.kind.BlockKind.TheVariants as kind;
+ghost use Rattle.plc_types.specs.declared.kind.BlockKind.TheVariants as kind;
 ghost use Rattle.group_core.specs.Seen.{on_path};
 ghost use Rattle.group_core.specs.States as group_states;
 ghost use Rattle.group_core.specs.Targets.{IsToward};

@@ -1,9 +1,9 @@
 -- What a caller does to a kernel. This project's profile.
 use Rattle.std.specs.Prelude.{◌≡◌, ◌+◌, ◌≤◌, Bool, ◌||◌, List, [], ◌∷◌, ◌++◌, length, map}
-use Rattle.axis_state.specs.declared.definition.AxisRow.{AxisRow}
-use Rattle.cia402_machine.specs.declared.drive.DriveIn.{DriveIn}
-use Rattle.cia402_machine.specs.declared.drive.DriveOut.{DriveOut}
-use Rattle.fb_outputs.specs.declared.outputs.Outputs.{Outputs}
+use Rattle.plc_types.specs.declared.axis.AxisRow.{AxisRow}
+use Rattle.plc_types.specs.declared.drive.DriveIn.{DriveIn}
+use Rattle.plc_types.specs.declared.drive.DriveOut.{DriveOut}
+use Rattle.plc_types.specs.declared.outputs.Outputs.{Outputs}
 use Rattle.motion_history.specs.Entries.{Entry, cycle, cycles_of}
 use Rattle.motion_kernel.specs.KernelState.{KernelState, state_of}
 use Rattle.motion_kernel.specs.cycles.Cycles.{cycled}

@@ -2,7 +2,7 @@
 
 ghost use Rattle.std.specs.Prelude.{◌≡◌, IfOk, IsTrue, length};
 ghost use Rattle.std.specs.Option.{option_map};
-ghost use Rattle.axis_state.specs.declared.definition.AxisRow.{AxisRow};
+ghost use Rattle.plc_types.specs.declared.axis.AxisRow.{AxisRow};
 ghost use Rattle.kernel_uses.specs.Uses as spec;
 ghost use Rattle.motion_history.specs.LastCycles.{axis_row_in, last_cycle_of};
 ghost use Rattle.kernel_uses.specs.Uses.{GoesOn};
@@ -10,8 +10,8 @@ ghost use Rattle.kernel_uses.specs.Uses.{GoesOn};
 use crate::full_history::NotMade;
 use crate::one_axis::{last_row, run_block};
 use drive_sim::Drive;
-use fb_outputs::INPUTS_OFF;
 use motion_kernel::{Inputs, Kernel, Outputs};
+use plc_types::INPUTS_OFF;
 
 /// The Reset of the machine of one axis.
 const RESET: u16 = 2;

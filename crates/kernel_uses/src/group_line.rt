@@ -8,10 +8,10 @@ ghost use Rattle.kernel_uses.specs.Uses.{AddsEntry, GoesOn, next_cycle};
 use crate::full_history::{NotMade, try_call, try_cycle};
 use crate::one_axis::has_ended;
 use drive_sim::Drive;
-use fb_outputs::INPUTS_OFF;
 use machine_drives::{answer_all, step_all};
 use motion_history::{BlockKind, Builder, ConfigFault, Limits, MOST_AXES};
 use motion_kernel::{Config, DriveIn, DriveOut, Inputs, Kernel, Outputs};
+use plc_types::INPUTS_OFF;
 use std::alloc::Global;
 
 /// The blocks of the machine, by their numbers.

@@ -9,9 +9,9 @@ ghost use Rattle.motion_history.specs.LastCycles.{axis_row_in, last_cycle_of};
 
 use crate::full_history::{NotMade, try_call, try_cycle};
 use drive_sim::Drive;
-use fb_outputs::INPUTS_OFF;
 use motion_history::{AxisRow, BlockKind, Builder, ConfigFault, Limits};
 use motion_kernel::{Config, DriveOut, Inputs, Kernel, Outputs};
+use plc_types::INPUTS_OFF;
 use std::alloc::Global;
 
 /// The blocks of the machine, by their numbers.

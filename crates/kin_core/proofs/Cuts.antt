@@ -6,8 +6,9 @@ use Rattle.motion_numbers.specs.Ranges.{is_outside}
 use Rattle.std.proofs.Common.{◌≡◌, sym, ℕ, ◌≤◌, ℤ, pos, neg_ℤ, ◌+ℤ◌, ◌-ℤ◌, ◌≤ℤ◌, ◌<ℤ◌, unsigned_abs, ◌∙◌, ap, min, w64, FitsSigned, arith}
 use Rattle.std.specs.Int.{int_min, int_max}
 use Rattle.std.proofs.lemmas.Int.{ints, clamps}
-use Rattle.kin_core.specs.declared.limits.Limits.{Limits}
-use Rattle.kin_core.specs.Admissible.{AreLimits, IsKept, least_step_after, greatest_step_after}
+use Rattle.plc_types.specs.declared.limits.Limits.{Limits}
+use Rattle.plc_types.specs.Limits.{AreLimits}
+use Rattle.kin_core.specs.Admissible.{IsKept, least_step_after, greatest_step_after}
 
 -- the greatest step that may follow is small
 pub greatest_small : (limits : Limits) (old step : ℤ) → AreLimits limits → unsigned_abs old ≤ 10000000000 → step ≡ int_min limits.vmax (greatest_step_after limits old) → unsigned_abs step ≤ 10000000000

@@ -4,9 +4,10 @@ use Rattle.std.proofs.Common.{◌≡◌, ℕ, ◌+◌, ◌-◌, ◌<◌, ◌≤�
 use Rattle.std.specs.Int.{int_min, int_max}
 use Rattle.std.proofs.lemmas.Int.{ints, clamps, by_lt_z}
 use Rattle.std.proofs.lemmas.Bool.{cases_lt}
-use Rattle.kin_core.specs.declared.limits.Limits.{Limits}
+use Rattle.plc_types.specs.declared.limits.Limits.{Limits}
 use Rattle.motion_numbers.specs.Run.{run_of, reach_of, cut_at_zero}
-use Rattle.kin_core.specs.Admissible.{AreLimits, IsAdmissible, IsSafe, IsKept, IsTakenStep, AllKept, least_step_after, greatest_step_after}
+use Rattle.plc_types.specs.Limits.{AreLimits}
+use Rattle.kin_core.specs.Admissible.{IsAdmissible, IsSafe, IsKept, IsTakenStep, AllKept, least_step_after, greatest_step_after}
 use Rattle.kin_core.specs.Taken.{least_safe_of, greatest_safe_of, taken_step_of, setpoints_of}
 use Rattle.kin_core.specs.Toward.{toward_zero}
 use Rattle.kin_core.proofs.Sizes.{cut_is}

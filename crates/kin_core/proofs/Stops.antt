@@ -4,9 +4,10 @@
 use Rattle.std.proofs.Common.{◌↔◌, ◌≡◌, ℕ, ◌+◌, ◌-◌, ◌<◌, ◌≤◌, zero, suc, ℤ, pos, ◌+ℤ◌, ◌-ℤ◌, ◌≤ℤ◌, ◌<ℤ◌, unsigned_abs, List, [], ◌∷◌, inl, inr, refl, arith}
 use Rattle.std.proofs.lemmas.Int.{ints, clamps, by_lt_z}
 use Rattle.std.proofs.lemmas.Bool.{cases_lt}
-use Rattle.kin_core.specs.declared.limits.Limits.{Limits}
+use Rattle.plc_types.specs.declared.limits.Limits.{Limits}
 use Rattle.motion_numbers.specs.Run.{run_of, cut_at_zero}
-use Rattle.kin_core.specs.Admissible.{AreLimits, IsAdmissible, StopsBy, IsStoppable, least_step_after, greatest_step_after}
+use Rattle.plc_types.specs.Limits.{AreLimits}
+use Rattle.kin_core.specs.Admissible.{IsAdmissible, StopsBy, IsStoppable, least_step_after, greatest_step_after}
 use Rattle.kin_core.proofs.Sizes.{cut_is}
 use Rattle.motion_numbers.specs.Laws.{AreWays}
 

@@ -1,7 +1,7 @@
 -- The step that an axis takes: the wanted one where it is safe, else the safe one nearest to it.
 use Rattle.std.specs.Prelude.{ℤ, pos, neg_ℤ, ◌+ℤ◌, ◌-ℤ◌, unsigned_abs, List, [], ◌∷◌}
 use Rattle.std.specs.Int.{int_min, int_max}
-use Rattle.kin_core.specs.declared.limits.Limits.{Limits}
+use Rattle.plc_types.specs.declared.limits.Limits.{Limits}
 use Rattle.kin_core.specs.Admissible.{least_step_after, greatest_step_after}
 use Rattle.motion_numbers.specs.Run.{reach_of}
 

@@ -2,8 +2,9 @@
 // nothing runs.
 
 ghost use Rattle.std.specs.Prelude.{◌≡◌, ◌↔◌, ℤ, pos, neg_ℤ, ◌+ℤ◌, ◌-ℤ◌, ◌≤ℤ◌, unsigned_abs, List};
-ghost use Rattle.kin_core.specs.declared.limits.Limits.{Limits};
-ghost use Rattle.kin_core.specs.Admissible.{AreLimits, StepMayFollow, StepMayFollowAhead};
+ghost use Rattle.plc_types.specs.declared.limits.Limits.{Limits};
+ghost use Rattle.plc_types.specs.Limits.{AreLimits};
+ghost use Rattle.kin_core.specs.Admissible.{StepMayFollow, StepMayFollowAhead};
 ghost use Rattle.kin_core.specs.Admissible.{IsSafe, IsKept, AllKept};
 ghost use Rattle.kin_core.specs.Laws.{AreSafeSteps, AreStepsAhead, AreTakenSteps};
 ghost use Rattle.kin_core.specs.Laws.{AreBrakingSteps, AreTowardZero};

@@ -1,11 +1,10 @@
 //! The limits of an axis, and which steps are safe within them. A step is safe where the axis can
 //! still come to rest inside its limits afterwards; the safe steps are an interval, and the step
 //! taken is the one nearest to the wanted one. Every limit in this kernel rests on it. It stands on
-//! `motion_numbers`. Begin at [`nearest_safe`] and [`stoppable`].
+//! `plc_types`. Begin at [`nearest_safe`] and [`stoppable`].
 #![tactic(auto)]
 
 mod laws;
-mod limits;
 mod stopping;
 mod taking;
 
@@ -14,7 +13,6 @@ pub use laws::{
     steps_ahead_are_safe, steps_fall_toward_zero, steps_follow_by_direction, taken_steps_keep,
     taken_steps_keep_for_ever,
 };
-pub use limits::Limits;
 pub use motion_numbers::{greatest_ramp, ramp_sum, run_sum};
 pub use stopping::stoppable;
 pub use taking::nearest_safe;

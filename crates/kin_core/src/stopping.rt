@@ -1,11 +1,12 @@
 // Whether an axis can still be stopped within its limits.
 
 ghost use Rattle.std.specs.Prelude.{◌≡◌, ◌-◌, ◌≤◌, ◌↔◌, IsTrue, pos, ◌-ℤ◌, ◌≤ℤ◌, unsigned_abs};
-ghost use Rattle.kin_core.specs.Admissible.{AreLimits, IsStoppable};
+ghost use Rattle.plc_types.specs.Limits.{AreLimits};
+ghost use Rattle.kin_core.specs.Admissible.{IsStoppable};
 ghost use Rattle.motion_numbers.specs.Run.{run_of};
 
-use crate::limits::Limits;
 use motion_numbers::{MOST_STEP, ramp_sum, ways_to_rest};
+use plc_types::Limits;
 
 /// Whether an axis whose setpoints were `prev` and then `cur` can be brought to rest within its
 /// limits: there is a finite list of setpoints that goes on admissibly and ends with the same one

@@ -2,13 +2,14 @@
 
 ghost use Rattle.std.specs.Prelude.{◌≡◌, IsTrue, ◌≤◌, ◌*◌, ℤ, pos, neg_ℤ, ◌+ℤ◌, ◌-ℤ◌, ◌≤ℤ◌, unsigned_abs};
 ghost use Rattle.std.specs.Int.{int_min, int_max};
-ghost use Rattle.kin_core.specs.Admissible.{AreLimits, IsAdmissible, IsKept, IsSafe, IsTakenStep};
+ghost use Rattle.plc_types.specs.Limits.{AreLimits};
+ghost use Rattle.kin_core.specs.Admissible.{IsAdmissible, IsKept, IsSafe, IsTakenStep};
 ghost use Rattle.kin_core.specs.Admissible.{least_step_after, greatest_step_after, StepMayFollow};
 ghost use Rattle.kin_core.specs.Taken.{reach_up_of, reach_down_of, taken_step_of};
 ghost use Rattle.motion_numbers.specs.Ranges.{IsStep};
 
-use crate::limits::Limits;
 use motion_numbers::{MOST_WAY, greatest_ramp, is_outside, ways_to_rest};
+use plc_types::Limits;
 
 /// The safe step nearest to the `wanted` one, for an axis whose setpoints were `prev` and then
 /// `cur`. All are in internal units, and steps are signed; the wanted step is one where it is safe.

@@ -1,7 +1,7 @@
 // The kernel that runs for as long as one likes.
 
 ghost use Rattle.std.specs.Prelude.{◌≡◌, ◌<◌, ◌+◌, IfOk, length, map};
-ghost use Rattle.axis_state.specs.declared.definition.AxisRow.{AxisRow};
+ghost use Rattle.plc_types.specs.declared.axis.AxisRow.{AxisRow};
 ghost use Rattle.lasting_kernel.specs.Lasting.{HasPast, after_hand_over, opened, whole_of, with_entry};
 ghost use Rattle.motion_history.specs.Calls.{IsCall};
 ghost use Rattle.motion_history.specs.Entries.{call, cycle, cycles_of, end_of};

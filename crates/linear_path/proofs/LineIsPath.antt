@@ -5,8 +5,9 @@ use Rattle.std.proofs.lemmas.Bool.{cases_eq}
 use Rattle.std.proofs.lemmas.Int.{ints}
 use Rattle.motion_numbers.specs.declared.TheConstants.{MOST_WAY}
 use Rattle.motion_numbers.specs.Ranges.{IsPlace}
-use Rattle.kin_core.specs.declared.limits.Limits.{Limits}
-use Rattle.kin_core.specs.Admissible.{AreLimits, IsAdmissible}
+use Rattle.plc_types.specs.declared.limits.Limits.{Limits}
+use Rattle.plc_types.specs.Limits.{AreLimits}
+use Rattle.kin_core.specs.Admissible.{IsAdmissible}
 use Rattle.linear_path.specs.Line.{coordinate_of, AreInRange, way_of, longest_way_of, place_between, path_limits_of}
 use Rattle.linear_path.specs.Path.{standing_limits, limits_at, AreAxesLimits, AreWithin, IsBetween}
 use Rattle.linear_path.proofs.LineLaws.{place_start, place_end, place_within, way_within}

@@ -3,8 +3,9 @@
 use Rattle.std.proofs.Common.{◌≡◌, ℕ, ◌+◌, ◌<◌, ◌≤◌, refl, ap, inl, inr, arith, true, ℤ, pos, ◌+ℤ◌, ◌-ℤ◌, ◌≤ℤ◌, unsigned_abs, List}
 use Rattle.std.proofs.lemmas.Bool.{cases_eq}
 use Rattle.std.proofs.lemmas.Int.{ints, by_lt_z}
-use Rattle.kin_core.specs.declared.limits.Limits.{Limits}
-use Rattle.kin_core.specs.Admissible.{AreLimits, IsAdmissible}
+use Rattle.plc_types.specs.declared.limits.Limits.{Limits}
+use Rattle.plc_types.specs.Limits.{AreLimits}
+use Rattle.kin_core.specs.Admissible.{IsAdmissible}
 use Rattle.linear_path.specs.Line.{coordinate_of, longest_way_of, place_between, keeps_velocity, keeps_change, path_velocity_of, path_acceleration_of, path_deceleration_of, path_limits_of}
 use Rattle.linear_path.specs.Path.{limits_at, AreAxisLimits, AreAxesLimits, AreWithin}
 use Rattle.linear_path.proofs.LineLaws.{place_forward, place_backward, place_start, place_within, way_within}

@@ -3,8 +3,8 @@
 use Rattle.std.proofs.Common.{◌≡◌, ℕ, ◌+◌, ◌<◌, ◌≤◌, min, refl, sym, arith, ℤ, pos, unsigned_abs, List}
 use Rattle.std.proofs.lemmas.Int.{ints}
 use Rattle.motion_numbers.specs.declared.TheConstants.{MOST_STEP, MOST_WAY}
-use Rattle.kin_core.specs.declared.limits.Limits.{Limits}
-use Rattle.kin_core.specs.Admissible.{AreLimits}
+use Rattle.plc_types.specs.declared.limits.Limits.{Limits}
+use Rattle.plc_types.specs.Limits.{AreLimits}
 use Rattle.linear_path.specs.Line.{way_of, longest_way_of, path_limits_of, path_velocity_of, path_acceleration_of, path_deceleration_of}
 use Rattle.linear_path.specs.Path.{standing_limits, limits_at, AreAxisLimits, AreAxesLimits}
 use Rattle.linear_path.specs.Rates.{IsRateOf, AreGreatestRates, velocity_test, gain_test, loss_test}

@@ -2,7 +2,7 @@
 -- for: leads_its_axes, steps_along_a_path_are_safe
 use Rattle.std.proofs.Common.{◌≡◌, ap, arith, ℤ, pos, ◌-ℤ◌, ◌≤ℤ◌, unsigned_abs, List, [], ◌∷◌, map}
 use Rattle.std.proofs.lemmas.Int.{ints, clamps}
-use Rattle.kin_core.specs.declared.limits.Limits.{Limits}
+use Rattle.plc_types.specs.declared.limits.Limits.{Limits}
 use Rattle.kin_core.specs.Admissible.{IsAdmissible, StopsBy, IsStoppable, IsSafe, IsKept}
 use Rattle.linear_path.specs.Path.{AreWithin, IsBetween}
 

@@ -3,7 +3,7 @@
 use Rattle.std.specs.Prelude.{ℕ, zero, suc, ◌+◌, ◌-◌, ◌*◌, ◌/◌, max, ℤ, pos, ◌+ℤ◌, ◌-ℤ◌, unsigned_abs, int_lt, Bool, true, nat_eq, nat_le, ◌&&◌, if◌then◌else◌, List, slice_index_or}
 use Rattle.motion_numbers.specs.declared.TheConstants.{MOST_STEP}
 use Rattle.motion_numbers.specs.Ranges.{IsPlace}
-use Rattle.kin_core.specs.declared.limits.Limits.{Limits}
+use Rattle.plc_types.specs.declared.limits.Limits.{Limits}
 use Rattle.linear_path.specs.Path.{standing_limits, limits_at}
 
 -- the coordinate of an axis, the axes counted from 0

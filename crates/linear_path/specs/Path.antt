@@ -1,8 +1,8 @@
 -- What the axes of a path keep (this project's profile).
 use Rattle.std.specs.Prelude.{◌≡◌, ℕ, ◌<◌, ℤ, pos, ◌≤ℤ◌, List, length, slice_index_or}
 use Rattle.std.specs.Int.{int_min, int_max}
-use Rattle.kin_core.specs.declared.limits.Limits.{Limits}
-use Rattle.kin_core.specs.Admissible.{AreLimits}
+use Rattle.plc_types.specs.declared.limits.Limits.{Limits}
+use Rattle.plc_types.specs.Limits.{AreLimits}
 
 -- the limits of a path of length 0: it stands
 abbrev pub standing_limits : Limits

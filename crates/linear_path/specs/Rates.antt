@@ -1,7 +1,7 @@
 -- The greatest rates that the first axes of a line allow.
 use Rattle.std.specs.Prelude.{◌≡◌, ℕ, ◌<◌, ◌≤◌, ℤ, unsigned_abs, Bool, true, IsTrue, ◌↔◌, List}
 use Rattle.motion_numbers.specs.declared.TheConstants.{MOST_STEP}
-use Rattle.kin_core.specs.declared.limits.Limits.{Limits}
+use Rattle.plc_types.specs.declared.limits.Limits.{Limits}
 use Rattle.linear_path.specs.Line.{way_of, keeps_velocity, keeps_change}
 use Rattle.linear_path.specs.Path.{limits_at}
 

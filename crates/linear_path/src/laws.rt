@@ -1,7 +1,7 @@
 // Laws of paths, for all paths and limits: the clauses say them, and nothing runs.
 
 ghost use Rattle.std.specs.Prelude.{◌≡◌, ℕ, ◌<◌, ℤ, pos, ◌≤ℤ◌, List};
-ghost use Rattle.kin_core.specs.declared.limits.Limits.{Limits};
+ghost use Rattle.plc_types.specs.declared.limits.Limits.{Limits};
 ghost use Rattle.kin_core.specs.Admissible.{IsAdmissible, IsSafe, IsKept};
 ghost use Rattle.linear_path.specs.Path.{limits_at, AreAxesLimits, AreWithin};
 

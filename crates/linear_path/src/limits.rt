@@ -1,14 +1,14 @@
 // The limits of a path along a straight line.
 
 ghost use Rattle.std.specs.Prelude.{◌≡◌, ℕ, ◌*◌, ◌/◌, ◌≤◌, ◌<◌, min, unsigned_abs};
-ghost use Rattle.kin_core.specs.Admissible.{AreLimits};
+ghost use Rattle.plc_types.specs.Limits.{AreLimits};
 ghost use Rattle.linear_path.specs.Line.{way_of, longest_way_of, keeps_velocity, keeps_change, path_limits_of};
 ghost use Rattle.linear_path.specs.Path.{AreAxisLimits, AreAxesLimits};
 ghost use Rattle.linear_path.specs.Rates.{IsRateOf, AreGreatestRates};
 
 use crate::line::LinePath;
-use kin_core::Limits;
 use motion_numbers::{MOST_STEP, MOST_WAY};
+use plc_types::Limits;
 
 #[derive(Clone, Copy)]
 struct PathRates {

@@ -7,7 +7,7 @@ use crate::part::place_at;
 use crate::path::Path;
 
 impl Path for LinePath {
-    ghost use Rattle.kin_core.specs.declared.limits.Limits.{Limits};
+    ghost use Rattle.plc_types.specs.declared.limits.Limits.{Limits};
     ghost use Rattle.linear_path.specs.Line.{coordinate_of, longest_way_of, place_between, path_limits_of};
 
     ghost length_of = { λ line. pos (longest_way_of line.count line.starts line.targets) };

@@ -8,8 +8,9 @@ use motion_numbers::MOST_WAY;
 /// A way that several axes go together: at each place 0 to `length()` every axis has one setpoint.
 /// All are in internal units, and the axes are counted from 0.
 pub trait Path {
-    ghost use Rattle.kin_core.specs.declared.limits.Limits.{Limits};
-    ghost use Rattle.kin_core.specs.Admissible.{AreLimits, IsAdmissible};
+    ghost use Rattle.plc_types.specs.declared.limits.Limits.{Limits};
+    ghost use Rattle.plc_types.specs.Limits.{AreLimits};
+    ghost use Rattle.kin_core.specs.Admissible.{IsAdmissible};
     ghost use Rattle.linear_path.specs.Path.{limits_at, AreAxesLimits, AreWithin, IsBetween};
 
     ghost length_of: { Self → ℤ };

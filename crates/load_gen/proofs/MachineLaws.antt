@@ -5,7 +5,7 @@ use Rattle.std.specs.Prelude.{Err, pos, is_none, codes, ◌++◌}
 use Rattle.std.specs.List.{list_all, range_with_len}
 use Rattle.std.proofs.lemmas.List.FromFn.{get_or-range_with_len, length-range_with_len, map-range_with_len_more}
 use Rattle.std.proofs.lemmas.List.Sums.{AllPass-from_list_all}
-use Rattle.command_pool.specs.declared.kind.BlockKind.TheVariants.{MoveAbsolute}
+use Rattle.plc_types.specs.declared.kind.BlockKind.TheVariants.{MoveAbsolute}
 use Rattle.motion_history.specs.Faults.{FaultsBy, axis_fault, block_fault, is_used, task_fault}
 use Rattle.motion_history.specs.Ranges.{is_axis_range}
 use Rattle.motion_history.specs.Setup.{Setup}

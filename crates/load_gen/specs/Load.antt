@@ -4,8 +4,8 @@ use Rattle.std.specs.List.{flat_map}
 use Rattle.bench_text.specs.BenchState.{BenchState}
 use Rattle.bench_text.specs.declared.bench.BenchLine.{BenchLine}
 use Rattle.bench_text.specs.declared.bench.BenchLine.TheVariants.{Call, Cycles, End}
-use Rattle.fb_outputs.specs.Inputs.{inputs_off}
-use Rattle.fb_outputs.specs.declared.inputs.Inputs.{Inputs}
+use Rattle.plc_types.specs.Inputs.{inputs_off}
+use Rattle.plc_types.specs.declared.inputs.Inputs.{Inputs}
 use Rattle.motion_history.specs.Drives.{plain_drive}
 use Rattle.motion_history.specs.declared.refused.TraceVersion.TheVariants.{One}
 use Rattle.load_gen.specs.Machine.{machine}

@@ -1,8 +1,8 @@
 -- The rounds of a generated load: each draws a block and the inputs of its call. This project's
 -- profile.
 use Rattle.std.specs.Prelude.{ℕ, zero, suc, ◌+◌, ◌*◌, List, [], ◌∷◌, slice_index_or}
-use Rattle.command_pool.specs.declared.kind.BufferMode.{BufferMode}
-use Rattle.command_pool.specs.declared.kind.BufferMode.TheVariants.{Aborting, Buffered, BlendingLow, BlendingPrevious, BlendingNext, BlendingHigh}
+use Rattle.plc_types.specs.declared.kind.BufferMode.{BufferMode}
+use Rattle.plc_types.specs.declared.kind.BufferMode.TheVariants.{Aborting, Buffered, BlendingLow, BlendingPrevious, BlendingNext, BlendingHigh}
 use Rattle.load_gen.specs.Draws.{drawn, state_after}
 use Rattle.load_gen.specs.Machine.{greatest_acceleration, greatest_velocity}
 use Rattle.load_gen.specs.declared.round.Round.{Round}

@@ -11,9 +11,9 @@ use crate::draws::Draws;
 use crate::machine::{AXES, BLOCKS, machine};
 use crate::round::{Round, draw_round};
 use bench_text::{Bench, BenchLine};
-use fb_outputs::{INPUTS_OFF, Inputs};
 use machine_words::plain_drive;
 use motion_history::{Config, DriveDefs, MOST_MEMBERS, OutOfMemory, TraceVersion};
+use plc_types::{INPUTS_OFF, Inputs};
 use std::alloc::{AllocError, Global};
 
 /// How many rounds there are.

@@ -3,7 +3,7 @@ use Rattle.std.specs.Prelude.{ℕ, ℤ, pos, ◌+ℤ◌, Bool, false, ◌&&◌, 
 use Rattle.std.specs.Fmt.{signed_decimal}
 use Rattle.std.specs.List.{concat}
 use Rattle.std.specs.Option.{unwrap_or}
-use Rattle.axis_state.specs.declared.definition.AxisRow.{AxisRow}
+use Rattle.plc_types.specs.declared.axis.AxisRow.{AxisRow}
 use Rattle.motion_history.specs.Entries.{Entry, call, cycle, end_of}
 
 -- whether an entry is a call with Execute true that is refused: by an error from 1 to 19

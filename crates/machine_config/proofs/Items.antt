@@ -5,7 +5,7 @@ use Rattle.std.specs.Prelude.{nat_le, not}
 use Rattle.std.proofs.lemmas.Bool.{le-leb, leb-true}
 use Rattle.cam_table.specs.CamTable.{is_cam_table}
 use Rattle.fixed_units.specs.PerCycle.{per_cycle_of, per_cycle_squared_of}
-use Rattle.kin_core.specs.declared.limits.Limits.{Limits}
+use Rattle.plc_types.specs.declared.limits.Limits.{Limits}
 use Rattle.line_text.specs.Reading.{each_of}
 use Rattle.line_text.specs.Rules.{broken_unless, in_range}
 use Rattle.machine_words.specs.Drives.{drive_in}

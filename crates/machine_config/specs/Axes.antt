@@ -1,8 +1,8 @@
 -- The axes of a configuration. This project's profile.
 use Rattle.std.specs.Prelude.{ℕ, Result, Ok, [], ◌∷◌, ◌++◌}
-use Rattle.axis_state.specs.declared.definition.AxisDef.{AxisDef}
+use Rattle.plc_types.specs.declared.axis.AxisDef.{AxisDef}
 use Rattle.fixed_units.specs.PerCycle.{per_cycle_of, per_cycle_squared_of}
-use Rattle.kin_core.specs.declared.limits.Limits.{Limits}
+use Rattle.plc_types.specs.declared.limits.Limits.{Limits}
 use Rattle.line_text.specs.Reading.{◌>>=◌}
 use Rattle.line_text.specs.Rules.{broken_unless}
 use Rattle.machine_words.specs.Rules.{broken_by}

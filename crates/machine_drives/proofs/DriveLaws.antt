@@ -4,13 +4,13 @@ use Rattle.std.specs.Prelude.{◌≡◌, refl, ℕ, zero, suc, ◌+◌, ◌<◌,
 use Rattle.std.proofs.Common.{◌∙◌, sym, ap, arith}
 use Rattle.std.proofs.lemmas.List.{append_assoc, drop_more, get_or_at, length-take-le, set_at}
 use Rattle.std.proofs.lemmas.Bool.{and_parts, ltb-true}
-use Rattle.axis_state.specs.declared.definition.AxisDef.{AxisDef}
-use Rattle.axis_state.specs.declared.definition.AxisRow.{AxisRow}
-use Rattle.cia402_machine.specs.declared.drive.DriveOut.{DriveOut}
+use Rattle.plc_types.specs.declared.axis.AxisDef.{AxisDef}
+use Rattle.plc_types.specs.declared.axis.AxisRow.{AxisRow}
+use Rattle.plc_types.specs.declared.drive.DriveOut.{DriveOut}
 use Rattle.drive_sim.specs.Runs.{drive_after}
 use Rattle.drive_sim.specs.Sim.{DriveSim}
 use Rattle.drive_sim.specs.Steps.{drive_stepped}
-use Rattle.group_state.specs.declared.state.GroupRow.{GroupRow}
+use Rattle.plc_types.specs.declared.group.GroupRow.{GroupRow}
 use Rattle.motion_history.specs.Columns.{no_row, rows_in}
 use Rattle.motion_history.specs.Entries.{Entry, call, cycle, end_of}
 use Rattle.motion_history.specs.declared.drives.DriveDef.{DriveDef}

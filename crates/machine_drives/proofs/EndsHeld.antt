@@ -4,7 +4,7 @@ use Rattle.std.proofs.Common.{ℕ, ◌<◌, ◌≤◌, List, [], ◌∷◌, map,
 use Rattle.std.specs.Prelude.{All}
 use Rattle.std.specs.List.{AllByRecursion}
 use Rattle.std.proofs.lemmas.List.Elements.{All-from_recursion, recursion_from_All}
-use Rattle.axis_state.specs.Counts.{IsCount}
+use Rattle.plc_types.specs.Counts.{IsCount}
 use Rattle.drive_sim.specs.Sim.{DriveSim}
 use Rattle.machine_drives.specs.Drives.{drive_end}
 use Rattle.trace_text.specs.RowRanges.{IsDriveEnd}

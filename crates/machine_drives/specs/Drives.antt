@@ -1,9 +1,9 @@
 -- The drives of a machine: a simulated one for each axis, in step with the kernel.
 use Rattle.std.specs.Prelude.{◌≤◌, ℕ, suc, pos, List, [], ◌∷◌, length, map, slice_index_or}
-use Rattle.axis_state.specs.Counts.{count_of}
-use Rattle.axis_state.specs.declared.definition.AxisDef.{AxisDef}
-use Rattle.axis_state.specs.declared.definition.AxisRow.{AxisRow}
-use Rattle.cia402_machine.specs.declared.drive.DriveOut.{DriveOut}
+use Rattle.plc_types.specs.Counts.{count_of}
+use Rattle.plc_types.specs.declared.axis.AxisDef.{AxisDef}
+use Rattle.plc_types.specs.declared.axis.AxisRow.{AxisRow}
+use Rattle.plc_types.specs.declared.drive.DriveOut.{DriveOut}
 use Rattle.drive_sim.specs.Faults.{RisesAbove}
 use Rattle.drive_sim.specs.Runs.{drive_after}
 use Rattle.drive_sim.specs.Sim.{DriveSim}

@@ -1,8 +1,8 @@
 -- How drives follow the outputs of a history.
 use Rattle.std.specs.Prelude.{◌≡◌, ℕ, List, [], ◌∷◌, ◌++◌, map}
-use Rattle.axis_state.specs.declared.definition.AxisRow.{AxisRow}
+use Rattle.plc_types.specs.declared.axis.AxisRow.{AxisRow}
 use Rattle.drive_sim.specs.Sim.{DriveSim}
-use Rattle.group_state.specs.declared.state.GroupRow.{GroupRow}
+use Rattle.plc_types.specs.declared.group.GroupRow.{GroupRow}
 use Rattle.motion_history.specs.Columns.{rows_in}
 use Rattle.motion_history.specs.Entries.{Entry, cycle}
 use Rattle.machine_drives.specs.Drives.{drives_after, drives_stepped}

@@ -2,17 +2,17 @@
 
 ghost use Rattle.std.specs.Prelude.{◌≡◌, IsTrue, IfOk, length, map};
 ghost use Rattle.std.specs.List.{All, list_all};
-ghost use Rattle.axis_state.specs.Counts.{IsCount};
+ghost use Rattle.plc_types.specs.Counts.{IsCount};
 ghost use Rattle.drive_sim.specs.Sim.{DriveSim};
 ghost use Rattle.drive_sim.specs.Steps.{answer_of};
 ghost use Rattle.motion_history.specs.Ranges.{is_axis};
 ghost use Rattle.machine_drives.specs.Drives as spec;
 ghost use Rattle.machine_drives.specs.Drives.{CanOpen};
 
-use axis_state::{AxisDef, setpoints_have_counts, target_count};
-use cia402_machine::{DriveIn, DriveOut, DriveState, state_of, statuswords_are_read_back};
+use cia402_machine::{state_of, statuswords_are_read_back};
 use drive_sim::Drive;
 use motion_history::{DriveDef, OutOfMemory, axes_are_in_range};
+use plc_types::{AxisDef, DriveIn, DriveOut, DriveState, setpoints_have_counts, target_count};
 use std::alloc::{AllocError, Global};
 use trace_text::DriveEndRow;
 

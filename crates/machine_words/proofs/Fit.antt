@@ -3,10 +3,10 @@
 use Rattle.std.proofs.Common.{◌≡◌, ℕ, ◌<◌, ◌≤◌, ℤ, true, Option, Some, None, Ok, List, length, refl, subst, arith, inl, inr, lit≤}
 use Rattle.std.specs.Prelude.{pos, codes}
 use Rattle.std.proofs.lemmas.Bool.{cases_Bool}
-use Rattle.command_pool.specs.declared.kind.BufferMode.TheVariants.{Aborting}
-use Rattle.fb_outputs.specs.Inputs.{inputs_off, takes}
-use Rattle.fb_outputs.specs.declared.inputs.Input.TheVariants.{Velocity, Acceleration, Deceleration, Jerk, Numerator, Denominator}
-use Rattle.fb_outputs.specs.declared.inputs.Inputs.{Inputs}
+use Rattle.plc_types.specs.declared.kind.BufferMode.TheVariants.{Aborting}
+use Rattle.plc_types.specs.Inputs.{inputs_off, takes}
+use Rattle.plc_types.specs.declared.inputs.Input.TheVariants.{Velocity, Acceleration, Deceleration, Jerk, Numerator, Denominator}
+use Rattle.plc_types.specs.declared.inputs.Inputs.{Inputs}
 use Rattle.line_text.specs.Rules.{broken_unless, in_range}
 use Rattle.line_text.specs.Texts.{says}
 use Rattle.motion_history.specs.Calls.{axes_of}

@@ -2,13 +2,13 @@
 use Rattle.std.specs.Prelude.{ℕ, ℤ, pos, ◌==◌, Bool, true, not, ◌||◌, if◌then◌else◌, codes, Option, Some, None, Result, Ok, List, drop, is_some, length, nat_eq}
 use Rattle.std.specs.List.{list_all, slice_split, starts_with}
 use Rattle.std.specs.Option.{ok_or}
-use Rattle.command_pool.specs.declared.kind.BlockKind.{BlockKind}
-use Rattle.command_pool.specs.declared.kind.BufferMode.{BufferMode}
-use Rattle.command_pool.specs.declared.kind.BufferMode.TheVariants.{Aborting}
-use Rattle.fb_outputs.specs.Inputs.{inputs_off, takes}
-use Rattle.fb_outputs.specs.Names.{mode_named}
-use Rattle.fb_outputs.specs.declared.inputs.Input.TheVariants.{Master}
-use Rattle.fb_outputs.specs.declared.inputs.Inputs.{Inputs}
+use Rattle.plc_types.specs.declared.kind.BlockKind.{BlockKind}
+use Rattle.plc_types.specs.declared.kind.BufferMode.{BufferMode}
+use Rattle.plc_types.specs.declared.kind.BufferMode.TheVariants.{Aborting}
+use Rattle.plc_types.specs.Inputs.{inputs_off, takes}
+use Rattle.plc_types.specs.KindNames.{mode_named}
+use Rattle.plc_types.specs.declared.inputs.Input.TheVariants.{Master}
+use Rattle.plc_types.specs.declared.inputs.Inputs.{Inputs}
 use Rattle.line_text.specs.Reading.{◌>>=◌, each_of}
 use Rattle.line_text.specs.Rules.{broken_unless, in_range}
 use Rattle.line_text.specs.Texts.{says}

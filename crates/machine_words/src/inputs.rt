@@ -16,10 +16,9 @@ use crate::master::{are_masters_there, master_or_first};
 use crate::position::{axes_of, positions_or_none};
 use crate::rule::{NO_VALUE, OUT_OF_RANGE, WRONG_NAME};
 use crate::units::{Units, acceleration_of, place_of, velocity_of};
-use command_pool::BufferMode;
-use fb_outputs::{INPUTS_OFF, Inputs, mode_named};
 use line_text::{LineFault, broken_unless, in_range, required, says};
 use motion_history::{BlockDef, Builder};
+use plc_types::{BufferMode, INPUTS_OFF, Inputs, mode_named};
 use std::alloc::Global;
 
 /// The greatest number of a cam table in a call.

@@ -6,9 +6,8 @@ ghost use Rattle.line_text.specs.Texts.{texts};
 ghost use Rattle.machine_words.specs.Given.{given_of};
 ghost use Rattle.machine_words.specs.Keys as spec;
 
-use command_pool::BlockKind;
-use fb_outputs::{Input, takes};
 use line_text::value_at;
+use plc_types::{BlockKind, Input, takes};
 
 /// The texts of a call's inputs; none where one is left out.
 #[derive(Clone, Copy)]

@@ -11,10 +11,9 @@ ghost use Rattle.machine_words.specs.Names as names;
 use crate::key::key_of;
 use crate::name::{axis_at, axis_named};
 use crate::rule::WRONG_NAME;
-use command_pool::BlockKind;
-use fb_outputs::{Input, takes};
 use line_text::LineFault;
 use motion_history::Builder;
+use plc_types::{BlockKind, Input, takes};
 
 /// Whether each master that is given is an axis, where the kind takes one.
 #[tactic(auto, unfolding(crate::specs::Inputs::are_masters_there))]

@@ -8,11 +8,9 @@ ghost use Rattle.line_text.specs.Texts.{texts};
 ghost use Rattle.machine_words.specs.Names as spec;
 
 use crate::rule::WRONG_NAME;
-use axis_state::{AxisDef, Name};
-use command_pool::BlockKind;
-use fb_outputs::kind_named;
 use line_text::{LineFault, required};
 use motion_history::{BlockDef, Builder, GroupDef};
+use plc_types::{AxisDef, BlockKind, Name, kind_named};
 use std::alloc::Global;
 
 /// Whether two names are the same.

@@ -2,9 +2,9 @@
 -- for: motion_kind_name
 use Rattle.std.specs.Prelude.{◌≤◌, length}
 use Rattle.std.proofs.Common.{lit≤}
-use Rattle.command_pool.specs.declared.kind.BlockKind.{BlockKind}
-use Rattle.command_pool.specs.declared.kind.BlockKind.TheVariants as kind
-use Rattle.fb_outputs.specs.Names.{kind_name}
+use Rattle.plc_types.specs.declared.kind.BlockKind.{BlockKind}
+use Rattle.plc_types.specs.declared.kind.BlockKind.TheVariants as kind
+use Rattle.plc_types.specs.KindNames.{kind_name}
 
 -- a text of C has room for each
 pub kind-short : (k : BlockKind) → length (kind_name k) ≤ 24

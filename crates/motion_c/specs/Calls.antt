@@ -3,8 +3,8 @@ use Rattle.std.specs.Prelude.{◌≡◌, ◌↔◌, ◌≤◌, ◌<◌, ℕ, Boo
 use Rattle.std.specs.Option.{option_and_then}
 use Rattle.c_inputs.specs.Given.{inputs_given}
 use Rattle.c_inputs.specs.declared.given.MotionInputs.{MotionInputs}
-use Rattle.fb_outputs.specs.declared.inputs.Inputs.{Inputs}
-use Rattle.fb_outputs.specs.declared.outputs.Outputs.{Outputs}
+use Rattle.plc_types.specs.declared.inputs.Inputs.{Inputs}
+use Rattle.plc_types.specs.declared.outputs.Outputs.{Outputs}
 use Rattle.lasting_kernel.specs.Lasting.{LastingState, with_entry}
 use Rattle.motion_history.specs.Calls.{IsCall, axes_of}
 use Rattle.motion_history.specs.Entries.{call}

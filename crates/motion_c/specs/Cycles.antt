@@ -1,8 +1,8 @@
 -- What a cycle from C makes of a machine, and what it gives the drives. This project's profile.
 use Rattle.std.specs.Prelude.{◌≡◌, ◌↔◌, ◌<◌, ◌+◌, ℕ, List, length, map}
-use Rattle.axis_state.specs.declared.definition.AxisRow.{AxisRow}
-use Rattle.cia402_machine.specs.declared.drive.DriveIn.{DriveIn}
-use Rattle.cia402_machine.specs.declared.drive.DriveOut.{DriveOut}
+use Rattle.plc_types.specs.declared.axis.AxisRow.{AxisRow}
+use Rattle.plc_types.specs.declared.drive.DriveIn.{DriveIn}
+use Rattle.plc_types.specs.declared.drive.DriveOut.{DriveOut}
 use Rattle.lasting_kernel.specs.Lasting.{LastingState, with_entry}
 use Rattle.motion_history.specs.Entries.{cycle, cycles_of}
 use Rattle.motion_kernel.specs.Segments.{SegmentedState, machine_now}

@@ -1,11 +1,11 @@
 -- What a handle is asked of the items of its machine. This project's profile.
 use Rattle.std.specs.Prelude.{◌≡◌, ◌≢◌, ◌↔◌, ℕ, ◌++◌, ◌-◌, Option, None, List, length, replicate, slice_get}
 use Rattle.std.specs.Option.{option_map}
-use Rattle.axis_state.specs.declared.definition.AxisDef.{AxisDef}
-use Rattle.command_pool.specs.Kinds.{acts_on_group}
-use Rattle.command_pool.specs.declared.kind.BlockKind.{BlockKind}
-use Rattle.command_pool.specs.declared.kind.BlockKind.TheVariants as kind
-use Rattle.fb_outputs.specs.declared.names.TheConstants.{KINDS}
+use Rattle.plc_types.specs.declared.axis.AxisDef.{AxisDef}
+use Rattle.plc_types.specs.Kinds.{acts_on_group}
+use Rattle.plc_types.specs.declared.kind.BlockKind.{BlockKind}
+use Rattle.plc_types.specs.declared.kind.BlockKind.TheVariants as kind
+use Rattle.plc_types.specs.declared.kind_names.TheConstants.{KINDS}
 use Rattle.motion_history.specs.Setup.{Setup}
 use Rattle.motion_history.specs.declared.config.BlockDef.{BlockDef}
 use Rattle.motion_history.specs.declared.config.GroupDef.{GroupDef}

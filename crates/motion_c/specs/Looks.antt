@@ -1,11 +1,11 @@
 -- What a look at a machine shows. This project's profile.
 use Rattle.std.specs.Prelude.{◌≡◌, ◌≢◌, ◌↔◌, ◌≤◌, ◌<◌, ℕ, Option, None}
-use Rattle.axis_state.specs.declared.definition.AxisRow.{AxisRow}
-use Rattle.axis_state.specs.declared.state.AxisState.{AxisState}
-use Rattle.axis_state.specs.declared.state.AxisState.TheVariants as axis
-use Rattle.group_state.specs.declared.state.GroupRow.{GroupRow}
-use Rattle.group_state.specs.declared.state.GroupState.{GroupState}
-use Rattle.group_state.specs.declared.state.GroupState.TheVariants as group
+use Rattle.plc_types.specs.declared.axis.AxisRow.{AxisRow}
+use Rattle.plc_types.specs.declared.axis_state.AxisState.{AxisState}
+use Rattle.plc_types.specs.declared.axis_state.AxisState.TheVariants as axis
+use Rattle.plc_types.specs.declared.group.GroupRow.{GroupRow}
+use Rattle.plc_types.specs.declared.group.GroupState.{GroupState}
+use Rattle.plc_types.specs.declared.group.GroupState.TheVariants as group
 use Rattle.motion_c.specs.Calls.{bit}
 use Rattle.motion_c.specs.declared.looking.MotionAxisRow.{MotionAxisRow}
 use Rattle.motion_c.specs.declared.looking.MotionGroupRow.{MotionGroupRow}

@@ -1,9 +1,9 @@
 -- The trace of a machine, as C asks for it. This project's profile.
 use Rattle.std.specs.Prelude.{◌≡◌, ◌≢◌, ◌↔◌, ℕ, Option, Some, None, List, [], map, take, drop, length}
-use Rattle.cia402_machine.specs.declared.drive.DriveIn.{DriveIn}
+use Rattle.plc_types.specs.declared.drive.DriveIn.{DriveIn}
 use Rattle.cia402_machine.specs.Statusword.{state_of_word}
-use Rattle.cia402_machine.specs.declared.drive.DriveState.{DriveState}
-use Rattle.cia402_machine.specs.declared.drive.DriveState.TheVariants.{NotReady}
+use Rattle.plc_types.specs.declared.drive.DriveState.{DriveState}
+use Rattle.plc_types.specs.declared.drive.DriveState.TheVariants.{NotReady}
 use Rattle.lasting_kernel.specs.Lasting.{LastingState}
 use Rattle.motion_history.specs.Entries.{cycles_of}
 use Rattle.motion_history.specs.Setup.{Setup}

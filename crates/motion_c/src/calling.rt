@@ -11,9 +11,9 @@ ghost use Rattle.motion_history.specs.Calls.{IsCall};
 use crate::code::{CLOSED, FULL, OK, RANGE, UNKNOWN};
 use crate::motion::{Motion, put, take};
 use c_inputs::{MotionInputs, inputs_given};
-use fb_outputs::{Inputs, Outputs};
 use lasting_kernel::LastingKernel;
 use motion_history::{BlockDef, Config};
+use plc_types::{Inputs, Outputs};
 use std::alloc::Global;
 
 /// What a call shows: each is 0 or 1, but for `error_id`.

@@ -8,8 +8,8 @@ ghost use Rattle.motion_c.specs.declared.machine.Machine.{Machine};
 
 use crate::code::{CLOSED, FULL, LENGTH, OK, OVER};
 use crate::motion::{Motion, put, take};
-use cia402_machine::{DriveIn, DriveOut};
 use lasting_kernel::LastingKernel;
+use plc_types::{DriveIn, DriveOut};
 use std::alloc::Global;
 
 /// Goes through a cycle with the drives' answers, and gives each drive its output.

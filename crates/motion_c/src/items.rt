@@ -9,9 +9,8 @@ ghost use Rattle.motion_c.specs.declared.machine.Machine.{Machine};
 
 use crate::code::{CLOSED, OK, UNKNOWN};
 use crate::motion::{Motion, put, take};
-use axis_state::AxisDef;
-use command_pool::BlockKind;
 use motion_history::{BlockDef, Config};
+use plc_types::{AxisDef, BlockKind};
 use std::alloc::Global;
 
 /// The limits of an axis, as its machine's text has them, and the increment of its drive.

@@ -32,7 +32,6 @@ mod version;
 
 pub use c_inputs::MotionInputs;
 pub use calling::{MotionOutputs, motion_call};
-pub use cia402_machine::{DriveIn, DriveOut};
 pub use configuring::motion_open_config;
 pub use cycling::motion_cycle;
 pub use ending::motion_end;
@@ -57,6 +56,7 @@ pub use naming::{
     motion_task, motion_tasks,
 };
 pub use opening::{MotionRefusal, motion_close, motion_open};
+pub use plc_types::{DriveIn, DriveOut};
 pub use swapping::motion_swap;
 pub use tracing::{motion_segment_text, motion_trace, motion_trace_text};
 pub use version::motion_version;

@@ -2,7 +2,7 @@
 
 ghost use Rattle.std.specs.Prelude.{◌≡◌, ◌≢◌, ◌↔◌, ◌≤◌, Some, None, IfSome, length, slice_get};
 ghost use Rattle.std.specs.Option.{option_map};
-ghost use Rattle.fb_outputs.specs.Names as words;
+ghost use Rattle.plc_types.specs.KindNames as words;
 ghost use Rattle.motion_c.specs.Held.{held};
 ghost use Rattle.motion_c.specs.Items.{TellsItem, kind_at, name_at, padded};
 ghost use Rattle.motion_c.specs.declared.machine.Machine.{Machine};
@@ -10,10 +10,8 @@ ghost use Rattle.motion_c.specs.declared.machine.Machine.{Machine};
 use crate::code::{CLOSED, OK, UNKNOWN};
 use crate::motion::{Motion, put, take};
 use crate::naming::Item;
-use axis_state::Name;
-use command_pool::BlockKind;
-use fb_outputs::{KINDS, kind_name};
 use motion_history::Config;
+use plc_types::{BlockKind, KINDS, Name, kind_name};
 use std::alloc::Global;
 
 /// A name as a text of C, with zeros behind it.

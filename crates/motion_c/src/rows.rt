@@ -6,9 +6,8 @@ ghost use Rattle.motion_c.specs.Looks.{axis_shown, group_shown};
 ghost use Rattle.motion_history.specs.LastCycles.{axis_row_in, group_row_in, last_cycle_of};
 
 use crate::looking::{MotionAxisRow, MotionGroupRow};
-use axis_state::{AxisRow, AxisState};
-use group_state::{GroupRow, GroupState};
 use motion_kernel::SegmentedKernel;
+use plc_types::{AxisRow, AxisState, GroupRow, GroupState};
 
 /// The row of an axis in the last cycle of the segment.
 pub fn axis_row(kernel: &SegmentedKernel, axis: u8) -> Option<AxisRow>

@@ -2,9 +2,9 @@
 
 ghost use Rattle.std.specs.Prelude.{◌≡◌, ◌↔◌, IsTrue};
 
-use axis_state::{AxisDef, Limits, Name};
 use cam_table::CamTable;
 use motion_history::{BlockDef, Config, GroupDef};
+use plc_types::{AxisDef, Limits, Name};
 
 /// What can be reported to be the same.
 pub trait Same {

@@ -7,10 +7,11 @@ ghost use Rattle.segment_text.specs.TraceSegment as trace_segment;
 ghost use Rattle.trace_text.specs.Trace.{CanHold};
 
 use crate::machine::Machine;
-use cia402_machine::{DriveIn, DriveState, state_of};
+use cia402_machine::state_of;
 use motion_history::{AxisDef, Config, TraceVersion};
 use motion_kernel::SegmentedKernel;
 use outside::{MemorySink, write_all};
+use plc_types::{DriveIn, DriveState};
 use segment_text::header_text;
 use std::alloc::{AllocError, Global};
 use trace_text::{Command, DriveEndRow, write_trace};

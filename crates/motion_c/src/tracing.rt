@@ -9,8 +9,8 @@ use crate::code::{CLOSED, LATER, LENGTH, NO_MEMORY, OK};
 use crate::machine::Machine;
 use crate::motion::{Motion, put, take};
 use crate::texts::{trace_segment_written, trace_written};
-use cia402_machine::DriveIn;
 use lasting_kernel::LastingKernel;
+use plc_types::DriveIn;
 use std::alloc::Global;
 
 /// Makes the trace of all that was called, cycled and ended from opening on, where none of it

@@ -10,7 +10,7 @@ use Rattle.std.proofs.lemmas.Bool.Decides.{Decides-eqb, same_from_decides}
 use Rattle.std.proofs.lemmas.List.Folds.{list_all-append, list_any-append}
 use Rattle.std.proofs.lemmas.Map.Keys.{IsDistinct-cons, IsDistinct-head, IsDistinct-tail}
 use Rattle.std.proofs.lemmas.Slice.Eq.{bytes_eq-Decides}
-use Rattle.axis_state.specs.Names.{is_name}
+use Rattle.plc_types.specs.Names.{is_name}
 use Rattle.motion_history.specs.declared.config.GroupDef.{GroupDef}
 use Rattle.motion_history.specs.Faults.{is_member, are_distinct}
 use Rattle.motion_history.specs.Members.{members_of}

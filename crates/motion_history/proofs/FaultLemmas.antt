@@ -2,9 +2,9 @@
 -- for: axis, block, group and others
 use Rattle.std.specs.Prelude.{◌≡◌, refl, ℕ, ◌<◌, ◌≤◌, ℤ, Bool, true, false, ◌&&◌, ◌||◌, not, nat_le, nat_lt, if◌then◌else◌, Option, Some, None, List, length}
 use Rattle.std.proofs.lemmas.Bool.{and_parts, leb-false, leb-true, ltb-false, not-false, or_parts}
-use Rattle.kin_core.specs.declared.limits.Limits.{Limits}
-use Rattle.axis_state.specs.Names.{is_name}
-use Rattle.command_pool.specs.declared.kind.BlockKind.{BlockKind}
+use Rattle.plc_types.specs.declared.limits.Limits.{Limits}
+use Rattle.plc_types.specs.Names.{is_name}
+use Rattle.plc_types.specs.declared.kind.BlockKind.{BlockKind}
 use Rattle.motion_history.specs.declared.sizes.TheConstants.{MOST_AXES, MOST_GROUPS, MOST_MEMBERS, MOST_TASKS, MOST_BLOCKS, MOST_CYCLES, MOST_ENTRIES}
 use Rattle.motion_history.specs.declared.fault.ConfigFault.{ConfigFault}
 use Rattle.motion_history.specs.Setup.{Setup}

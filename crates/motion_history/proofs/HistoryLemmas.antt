@@ -7,8 +7,8 @@ use Rattle.std.proofs.Common.{◌∙◌, ap, subst, arith}
 use Rattle.std.proofs.Math.Nat.{mul-le-mul_right}
 use Rattle.std.proofs.lemmas.List.{map-append, length-map, length-drop, drop-append-le, take-append-le, take_all}
 use Rattle.std.proofs.lemmas.Option.{slice_get-map}
-use Rattle.axis_state.specs.declared.definition.AxisRow.{AxisRow}
-use Rattle.group_state.specs.declared.state.GroupRow.{GroupRow}
+use Rattle.plc_types.specs.declared.axis.AxisRow.{AxisRow}
+use Rattle.plc_types.specs.declared.group.GroupRow.{GroupRow}
 use Rattle.motion_history.specs.declared.entry.CallMade.{CallMade}
 use Rattle.motion_history.specs.declared.entry.Stored.{Stored}
 use Rattle.motion_history.specs.declared.entry.Stored.TheVariants as stored

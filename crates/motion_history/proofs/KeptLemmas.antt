@@ -5,8 +5,8 @@ use Rattle.std.specs.Option.{option_map}
 use Rattle.std.proofs.Common.{Vec, Global, ◌∙◌, sym, ap, arith}
 use Rattle.std.proofs.Math.Nat.{mul-le-mul_right}
 use Rattle.std.proofs.lemmas.List.{append-nil, drop-append-le, drop_all, length-drop}
-use Rattle.axis_state.specs.declared.definition.AxisRow.{AxisRow}
-use Rattle.group_state.specs.declared.state.GroupRow.{GroupRow}
+use Rattle.plc_types.specs.declared.axis.AxisRow.{AxisRow}
+use Rattle.plc_types.specs.declared.group.GroupRow.{GroupRow}
 use Rattle.motion_history.specs.declared.entry.CallMade.{CallMade}
 use Rattle.motion_history.specs.declared.entry.Stored.{Stored}
 use Rattle.motion_history.specs.declared.entry.Stored.TheVariants as stored

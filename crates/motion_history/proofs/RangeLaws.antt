@@ -7,10 +7,10 @@ use Rattle.std.proofs.lemmas.Bool.{and_parts, eqb-true}
 use Rattle.std.proofs.lemmas.Int.{ints}
 use Rattle.std.proofs.lemmas.Nat.{div-add-mod', mod_below}
 use Rattle.motion_numbers.specs.declared.TheConstants.{MOST_INCREMENT, MOST_PLACE, MOST_STEP}
-use Rattle.axis_state.specs.Counts.{count_of, HasCounts}
-use Rattle.axis_state.specs.declared.definition.AxisDef.{AxisDef}
-use Rattle.kin_core.specs.Admissible.{AreLimits}
-use Rattle.kin_core.specs.declared.limits.Limits.{Limits}
+use Rattle.plc_types.specs.Counts.{count_of, HasCounts}
+use Rattle.plc_types.specs.declared.axis.AxisDef.{AxisDef}
+use Rattle.plc_types.specs.Limits.{AreLimits}
+use Rattle.plc_types.specs.declared.limits.Limits.{Limits}
 use Rattle.motion_history.specs.AxisRanges.{IsMultiple, AreAxisRanges}
 use Rattle.motion_history.specs.Ranges.{is_axis, is_axis_range, are_places, are_speeds, is_between, has_counts, is_start}
 

@@ -7,7 +7,7 @@ use Rattle.std.proofs.lemmas.Bool.Decides.{Decides-eqb}
 use Rattle.std.proofs.lemmas.List.Elements.{All-from_recursion}
 use Rattle.std.proofs.lemmas.Map.Made.{AllPairs-from_IsDistinct}
 use Rattle.std.proofs.lemmas.Slice.Eq.{bytes_eq-Decides}
-use Rattle.axis_state.specs.Names.{is_name}
+use Rattle.plc_types.specs.Names.{is_name}
 use Rattle.cam_table.specs.CamTable.{IsCamTable}
 use Rattle.motion_history.specs.AxisRanges.{AreAxisRanges}
 use Rattle.motion_history.specs.Configurations.{IsBlock, IsSound}

@@ -2,8 +2,8 @@
 -- for: touch
 use Rattle.std.specs.Prelude.{◌≡◌, ◌≤◌, ◌*◌, drop, vec_capacity, vec_len}
 use Rattle.std.proofs.Common.{Vec, Global, ◌∙◌, ap, arith, sym}
-use Rattle.axis_state.specs.declared.definition.AxisRow.{AxisRow}
-use Rattle.group_state.specs.declared.state.GroupRow.{GroupRow}
+use Rattle.plc_types.specs.declared.axis.AxisRow.{AxisRow}
+use Rattle.plc_types.specs.declared.group.GroupRow.{GroupRow}
 use Rattle.motion_history.specs.declared.entry.CallMade.{CallMade}
 use Rattle.motion_history.specs.declared.entry.Stored.{Stored}
 use Rattle.motion_history.specs.declared.history.History.TheInside.{Inside}

@@ -1,9 +1,9 @@
 -- The ranges of an axis, as facts. This project's profile.
 use Rattle.std.specs.Prelude.{◌≡◌, ℤ, pos, ◌*ℤ◌, ◌≤ℤ◌, ◌<ℤ◌}
 use Rattle.motion_numbers.specs.declared.TheConstants.{MOST_INCREMENT, MOST_PLACE}
-use Rattle.axis_state.specs.Counts.{HasCounts}
-use Rattle.axis_state.specs.declared.definition.AxisDef.{AxisDef}
-use Rattle.kin_core.specs.Admissible.{AreLimits}
+use Rattle.plc_types.specs.Counts.{HasCounts}
+use Rattle.plc_types.specs.declared.axis.AxisDef.{AxisDef}
+use Rattle.plc_types.specs.Limits.{AreLimits}
 
 -- a place is a whole number of increments
 pub record IsMultiple (place inc : ℤ) : Type 0 where

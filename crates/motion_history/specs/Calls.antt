@@ -1,8 +1,8 @@
 -- How a block of a configuration may be called. This project's profile.
 use Rattle.std.specs.Prelude.{◌≡◌, ◌<◌, ℕ, Option, Some, None, length, slice_get, if◌then◌else◌}
-use Rattle.command_pool.specs.Kinds.{acts_on_group}
-use Rattle.fb_outputs.specs.Inputs.{AreInputs}
-use Rattle.fb_outputs.specs.declared.inputs.Inputs.{Inputs}
+use Rattle.plc_types.specs.Kinds.{acts_on_group}
+use Rattle.plc_types.specs.Inputs.{AreInputs}
+use Rattle.plc_types.specs.declared.inputs.Inputs.{Inputs}
 use Rattle.motion_history.specs.declared.config.BlockDef.{BlockDef}
 use Rattle.motion_history.specs.declared.config.GroupDef.{GroupDef}
 use Rattle.motion_history.specs.Setup.{Setup}

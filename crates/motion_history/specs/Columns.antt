@@ -1,11 +1,8 @@
--- The rows of one axis in a history, and when all axes keep their limits. This project's profile.
-use Rattle.std.specs.Prelude.{◌≡◌, ℕ, false, pos, Some, List, [], ◌∷◌, slice_get, slice_index_or}
-use Rattle.axis_state.specs.Spells.{KeepsLimits, opening_spell}
-use Rattle.axis_state.specs.declared.definition.AxisDef.{AxisDef}
-use Rattle.axis_state.specs.declared.definition.AxisRow.{AxisRow}
-use Rattle.axis_state.specs.declared.state.AxisState.TheVariants.{Disabled}
+-- The rows of one axis in a history. This project's profile.
+use Rattle.std.specs.Prelude.{ℕ, false, pos, List, [], ◌∷◌, slice_index_or}
+use Rattle.plc_types.specs.declared.axis.AxisRow.{AxisRow}
+use Rattle.plc_types.specs.declared.axis_state.AxisState.TheVariants.{Disabled}
 use Rattle.motion_history.specs.Entries.{Entry, call, cycle, end_of}
-use Rattle.motion_history.specs.Setup.{Setup}
 
 -- a row that is nowhere stands for one that is not there
 abbrev pub no_row : AxisRow
@@ -25,9 +22,3 @@ rows_in n [] = []
 rows_in n (call k inputs reply ∷ es) = rows_in n es
 rows_in n (cycle c axes groups ∷ es) = slice_index_or axes n no_row ∷ rows_in n es
 rows_in n (end_of task ∷ es) = rows_in n es
-
--- in all its rows each axis keeps its limits of position, velocity, acceleration and braking while
--- it is driven
-unfoldable pub KeepTheirLimits : Setup → List Entry → Type 0
-KeepTheirLimits s es = (n : ℕ) (d : AxisDef) → slice_get s.axes n ≡ Some d →
-    KeepsLimits d.limits (opening_spell d) (rows_in n es)

@@ -1,9 +1,9 @@
 -- What a configuration keeps, as facts. This project's profile.
 use Rattle.std.specs.Prelude.{◌≢◌, ◌<◌, ◌≤◌, IsTrue, All, AllPairs, length, if◌then◌else◌}
 use Rattle.std.specs.List.{flat_map}
-use Rattle.axis_state.specs.Names.{is_name}
+use Rattle.plc_types.specs.Names.{is_name}
 use Rattle.cam_table.specs.CamTable.{IsCamTable}
-use Rattle.command_pool.specs.Kinds.{acts_on_group}
+use Rattle.plc_types.specs.Kinds.{acts_on_group}
 use Rattle.motion_history.specs.AxisRanges.{AreAxisRanges}
 use Rattle.motion_history.specs.Members.{members_of, IsGroup}
 use Rattle.motion_history.specs.Setup.{Setup, names_of, FitsSizes}

@@ -1,9 +1,9 @@
 -- What contracts see of a history. This project's profile.
 use Rattle.std.specs.Prelude.{◌≡◌, ℕ, ◌+◌, List, [], ◌∷◌, ◌++◌}
-use Rattle.axis_state.specs.declared.definition.AxisRow.{AxisRow}
-use Rattle.fb_outputs.specs.declared.inputs.Inputs.{Inputs}
-use Rattle.fb_outputs.specs.declared.outputs.Outputs.{Outputs}
-use Rattle.group_state.specs.declared.state.GroupRow.{GroupRow}
+use Rattle.plc_types.specs.declared.axis.AxisRow.{AxisRow}
+use Rattle.plc_types.specs.declared.inputs.Inputs.{Inputs}
+use Rattle.plc_types.specs.declared.outputs.Outputs.{Outputs}
+use Rattle.plc_types.specs.declared.group.GroupRow.{GroupRow}
 
 -- one event and what came of it: a block's call with its inputs and its reply, a cycle with its
 -- number and the rows of the axes and groups, or the end of a task

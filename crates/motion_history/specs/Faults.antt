@@ -2,11 +2,11 @@
 use Rattle.std.specs.Prelude.{◌≡◌, ◌≤◌, ℕ, ℤ, Bool, true, ◌||◌, ◌&&◌, not, nat_eq, nat_le, nat_lt, if◌then◌else◌, Option, Some, None, Result, Err, IsOkUnless, List, [], ◌∷◌, length}
 use Rattle.std.specs.List.{list_all, list_any}
 use Rattle.std.specs.Str.{bytes_eq}
-use Rattle.kin_core.specs.declared.limits.Limits.{Limits}
-use Rattle.axis_state.specs.Names.{is_name}
+use Rattle.plc_types.specs.declared.limits.Limits.{Limits}
+use Rattle.plc_types.specs.Names.{is_name}
 use Rattle.cam_table.specs.CamFault.{IsFault}
 use Rattle.cam_table.specs.CamTable.{IsCamTable}
-use Rattle.command_pool.specs.declared.kind.BlockKind.{BlockKind}
+use Rattle.plc_types.specs.declared.kind.BlockKind.{BlockKind}
 use Rattle.motion_history.specs.declared.sizes.TheConstants.{MOST_AXES, MOST_GROUPS, MOST_MEMBERS, MOST_TABLES, MOST_TASKS, MOST_BLOCKS, MOST_CYCLES, MOST_ENTRIES}
 use Rattle.motion_history.specs.declared.config.GroupDef.{GroupDef}
 use Rattle.motion_history.specs.declared.fault.ConfigFault.{ConfigFault}

@@ -1,7 +1,7 @@
 -- The texts of names that may not be there. This project's profile.
 use Rattle.std.specs.Prelude.{ℕ, Option, Some, None, List, [], slice_get}
 use Rattle.std.specs.Option.{option_map}
-use Rattle.axis_state.specs.declared.definition.AxisDef.{AxisDef}
+use Rattle.plc_types.specs.declared.axis.AxisDef.{AxisDef}
 use Rattle.motion_history.specs.Setup.{Setup}
 
 -- a text that is there, or none

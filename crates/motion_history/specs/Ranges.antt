@@ -2,10 +2,10 @@
 use Rattle.std.specs.Prelude.{ℕ, ◌-◌, ◌^◌, Bool, ◌&&◌, ◌==◌, unsigned_abs, nat_lt, if◌then◌else◌, ℤ, pos, neg_ℤ, int_le, int_lt}
 use Rattle.std.specs.Int.{int_div_euclid, int_rem_euclid}
 use Rattle.motion_numbers.specs.declared.TheConstants.{MOST_INCREMENT, MOST_PLACE, MOST_STEP}
-use Rattle.kin_core.specs.declared.limits.Limits.{Limits}
-use Rattle.axis_state.specs.declared.definition.AxisDef.{AxisDef}
-use Rattle.command_pool.specs.Kinds.{acts_on_group}
-use Rattle.command_pool.specs.declared.kind.BlockKind.{BlockKind}
+use Rattle.plc_types.specs.declared.limits.Limits.{Limits}
+use Rattle.plc_types.specs.declared.axis.AxisDef.{AxisDef}
+use Rattle.plc_types.specs.Kinds.{acts_on_group}
+use Rattle.plc_types.specs.declared.kind.BlockKind.{BlockKind}
 use Rattle.motion_history.specs.declared.config.BlockDef.{BlockDef}
 
 -- whether z lies between two numbers, both included

@@ -2,8 +2,8 @@
 use Rattle.std.specs.Prelude.{ℕ, ℤ, ◌≤◌, List, ◌++◌, length, map, IsTrue}
 use Rattle.std.specs.List.{AllByRecursion, IsDistinct, list_all}
 use Rattle.std.specs.Str.{bytes_eq}
-use Rattle.axis_state.specs.Names.{is_name}
-use Rattle.axis_state.specs.declared.definition.AxisDef.{AxisDef}
+use Rattle.plc_types.specs.Names.{is_name}
+use Rattle.plc_types.specs.declared.axis.AxisDef.{AxisDef}
 use Rattle.cam_table.specs.CamTable.{IsCamTable}
 use Rattle.motion_history.specs.declared.sizes.TheConstants.{MOST_AXES, MOST_GROUPS, MOST_TABLES, MOST_TASKS, MOST_BLOCKS, MOST_CYCLES, MOST_ENTRIES}
 use Rattle.motion_history.specs.declared.config.GroupDef.{GroupDef}

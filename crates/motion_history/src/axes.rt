@@ -9,8 +9,8 @@ use crate::config::Items;
 use crate::fault::ConfigFault;
 use crate::names::name_fault;
 use crate::sizes::MOST_AXES;
-use axis_state::Limits;
 use motion_numbers::{MOST_INCREMENT, MOST_PLACE, MOST_STEP};
+use plc_types::Limits;
 
 /// Why an axis is refused.
 #[tactic(auto, unfolding(crate::specs::Faults::axis_fault))]

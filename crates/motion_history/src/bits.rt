@@ -2,12 +2,10 @@
 
 ghost use Rattle.std.specs.Prelude.{◌≡◌, ◌≤◌, ◌≤ℤ◌, neg_ℤ, pos, length};
 ghost use Rattle.std.proofs.Common.{FitsSigned, w64};
-ghost use Rattle.axis_state.specs.Counts.{IsCount};
+ghost use Rattle.plc_types.specs.Counts.{IsCount};
 ghost use Rattle.motion_history.specs.Bits.{HasCallBits, HasGroupRowBits, HasRowBits};
 
-use axis_state::AxisRow;
-use fb_outputs::{Inputs, Outputs};
-use group_state::GroupRow;
+use plc_types::{AxisRow, GroupRow, Inputs, Outputs};
 
 // A word has 16 bits.
 fn word_fits(word: u16)

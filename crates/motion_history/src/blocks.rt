@@ -9,7 +9,7 @@ use crate::config::Items;
 use crate::fault::ConfigFault;
 use crate::names::name_fault;
 use crate::sizes::{MOST_BLOCKS, MOST_TASKS};
-use command_pool::BlockKind;
+use plc_types::BlockKind;
 
 /// Why a task is refused.
 #[tactic(auto, unfolding(crate::specs::Faults::task_fault))]

@@ -16,8 +16,7 @@ use crate::groups::{group_fault, group_of};
 use crate::names::name_fault;
 use crate::sizes::{MOST_TABLES, is_room};
 use crate::tables::new_table;
-use axis_state::{AxisDef, Limits, Name};
-use command_pool::BlockKind;
+use plc_types::{AxisDef, BlockKind, Limits, Name};
 use std::alloc::Global;
 use std::marker::Model;
 

@@ -10,11 +10,9 @@ ghost use Rattle.motion_history.specs.Members.{members_of};
 
 use crate::sizes::MOST_MEMBERS;
 use crate::tables::copied_tables;
-use axis_state::{AxisDef, Name};
 use cam_table::CamTable;
-use command_pool::BlockKind;
-use fb_outputs::{Inputs, are_inputs};
 use out_of_memory::OutOfMemory;
+use plc_types::{AxisDef, BlockKind, Inputs, Name, are_inputs};
 use std::alloc::Global;
 use std::marker::Model;
 

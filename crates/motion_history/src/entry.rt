@@ -5,9 +5,7 @@ ghost use Rattle.motion_history.specs.Looks.{told};
 ghost use Rattle.motion_history.specs.Rows as kept;
 ghost use Rattle.motion_history.specs.Stored.{call_entry};
 
-use axis_state::AxisRow;
-use fb_outputs::{Inputs, Outputs};
-use group_state::GroupRow;
+use plc_types::{AxisRow, GroupRow, Inputs, Outputs};
 
 /// An entry of a history, as it is looked at.
 #[derive(Clone, Copy)]

@@ -1,6 +1,6 @@
 // What happens to a kernel.
 
-use fb_outputs::Inputs;
+use plc_types::Inputs;
 
 /// One event of a history, without what came of it.
 #[derive(Clone, Copy, Debug, PartialEq, Eq)]

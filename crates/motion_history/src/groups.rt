@@ -2,7 +2,7 @@
 
 ghost use Rattle.std.specs.Prelude.{◌≡◌, ◌≤◌, ◌&&◌, IsTrue, length, nat_eq, nat_lt, not};
 ghost use Rattle.std.specs.List.{list_all, list_any};
-ghost use Rattle.axis_state.specs.Names as names;
+ghost use Rattle.plc_types.specs.Names as names;
 ghost use Rattle.motion_history.specs.Faults as faults;
 ghost use Rattle.motion_history.specs.Items.{setup_of};
 ghost use Rattle.motion_history.specs.Members as spec;
@@ -11,7 +11,7 @@ use crate::config::{GroupDef, Items};
 use crate::fault::ConfigFault;
 use crate::names::name_fault;
 use crate::sizes::{MOST_GROUPS, MOST_MEMBERS};
-use axis_state::Name;
+use plc_types::Name;
 
 /// Why a group is refused.
 #[tactic(auto, unfolding(crate::specs::Faults::group_fault))]

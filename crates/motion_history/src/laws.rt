@@ -1,7 +1,7 @@
 // Laws of configurations and histories: each is the contract of a function that does nothing.
 
 ghost use Rattle.std.specs.Prelude.{◌≡◌, ◌+◌, ◌≤◌, ◌++◌, List, IsTrue, length};
-ghost use Rattle.axis_state.specs.declared.definition.AxisDef.{AxisDef};
+ghost use Rattle.plc_types.specs.declared.axis.AxisDef.{AxisDef};
 ghost use Rattle.motion_history.specs.AxisRanges.{AreAxisRanges};
 ghost use Rattle.motion_history.specs.Configurations.{IsSound};
 ghost use Rattle.motion_history.specs.Entries.{CyclesAddUp, Entry, cycles_of};

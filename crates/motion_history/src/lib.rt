@@ -23,7 +23,6 @@ mod sizes;
 mod tables;
 mod touching;
 
-pub use axis_state::{AxisDef, AxisRow, AxisState, DriveIn, DriveOut, Limits, Name};
 pub use builder::Builder;
 pub use cam_table::{CamFault, CamTable};
 pub use config::{BlockDef, Config, GroupDef};
@@ -31,11 +30,13 @@ pub use drives::{DriveDef, DriveDefs, FaultList};
 pub use entry::{CycleLook, EntryLook};
 pub use event::Event;
 pub use fault::ConfigFault;
-pub use fb_outputs::{BlockKind, BufferMode, Inputs, Outputs};
-pub use group_state::{GroupRow, GroupState};
 pub use history::History;
 pub use laws::{axes_are_in_range, configurations_are_sound, cycles_add_up};
 pub use out_of_memory::OutOfMemory;
+pub use plc_types::{
+    AxisDef, AxisRow, AxisState, BlockKind, BufferMode, DriveIn, DriveOut, GroupRow, GroupState,
+    Inputs, Limits, Name, Outputs,
+};
 pub use refused::{Rule, TextFault, TextRefused, TraceVersion};
 pub use shown::{axis_name, name_text};
 pub use sizes::{

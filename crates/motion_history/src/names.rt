@@ -8,7 +8,7 @@ ghost use Rattle.motion_history.specs.Faults as faults;
 
 use crate::config::{BlockDef, GroupDef, Items};
 use crate::fault::ConfigFault;
-use axis_state::{AxisDef, Name, is_name};
+use plc_types::{AxisDef, Name, is_name};
 
 // Whether two names are the same.
 fn is_same(name: &Name, bytes: &[u8]) -> bool

@@ -4,7 +4,7 @@ ghost use Rattle.std.specs.Prelude.{◌≡◌};
 ghost use Rattle.motion_history.specs.NameTexts as spec;
 
 use crate::config::Config;
-use axis_state::Name;
+use plc_types::Name;
 
 /// The bytes of a name, or none.
 pub fn name_text(name: &Option<Name>) -> &[u8]

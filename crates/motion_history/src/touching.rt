@@ -3,9 +3,7 @@
 ghost use Rattle.std.specs.Prelude.{◌≡◌, ◌≤◌, vec_capacity, vec_len};
 
 use crate::entry::CallMade;
-use axis_state::{AxisRow, AxisState, DriveIn, DriveOut};
-use fb_outputs::{INPUTS_OFF, Outputs};
-use group_state::{GroupRow, GroupState};
+use plc_types::{AxisRow, AxisState, DriveIn, DriveOut, GroupRow, GroupState, INPUTS_OFF, Outputs};
 
 /// A call that nobody makes.
 pub const NO_CALL: CallMade = CallMade {

@@ -10,13 +10,13 @@ use Rattle.std.proofs.lemmas.List.Elements.{All-get_or}
 use Rattle.axis_core.specs.Along.{KeepsDefinition}
 use Rattle.axis_core.specs.Cycles.{axis_at_opening, core_after_cycle, row_shown}
 use Rattle.axis_core.specs.declared.axis.Axis.{Axis}
-use Rattle.axis_state.specs.Counts.{HasCounts, IsCount, place_of}
-use Rattle.axis_state.specs.declared.definition.AxisDef.{AxisDef}
-use Rattle.axis_state.specs.declared.definition.AxisRow.{AxisRow}
-use Rattle.cia402_machine.specs.declared.drive.DriveIn.{DriveIn}
-use Rattle.fb_outputs.specs.declared.inputs.Inputs.{Inputs}
-use Rattle.group_state.specs.declared.state.GroupRow.{GroupRow}
-use Rattle.kin_core.specs.declared.limits.Limits.{Limits}
+use Rattle.plc_types.specs.Counts.{HasCounts, IsCount, place_of}
+use Rattle.plc_types.specs.declared.axis.AxisDef.{AxisDef}
+use Rattle.plc_types.specs.declared.axis.AxisRow.{AxisRow}
+use Rattle.plc_types.specs.declared.drive.DriveIn.{DriveIn}
+use Rattle.plc_types.specs.declared.inputs.Inputs.{Inputs}
+use Rattle.plc_types.specs.declared.group.GroupRow.{GroupRow}
+use Rattle.plc_types.specs.declared.limits.Limits.{Limits}
 use Rattle.motion_numbers.specs.declared.TheConstants.{MOST_INCREMENT, MOST_PLACE}
 use Rattle.motion_history.specs.AxisRanges.{AreAxisRanges}
 use Rattle.motion_history.specs.Columns.{no_row}

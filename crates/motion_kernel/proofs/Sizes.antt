@@ -5,7 +5,7 @@ use Rattle.std.proofs.Common.{arith, ◌∙◌}
 use Rattle.std.proofs.lemmas.List.{length-map, length-set}
 use Rattle.axis_core.specs.Cores as axis
 use Rattle.command_pool.specs.declared.ending.Refusal.{Refusal}
-use Rattle.command_pool.specs.declared.kind.BlockKind.{BlockKind}
+use Rattle.plc_types.specs.declared.kind.BlockKind.{BlockKind}
 use Rattle.command_pool.specs.declared.notes.Note.{Note}
 use Rattle.fb_outputs.specs.InstanceState.{InstanceState}
 use Rattle.group_core.specs.Cores as group

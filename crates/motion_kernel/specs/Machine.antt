@@ -4,8 +4,8 @@ use Rattle.std.specs.Prelude.{ℕ, ◌+◌, Bool, false, ◌&&◌, pos, Option, 
 use Rattle.axis_core.specs.Cores as axis
 use Rattle.axis_core.specs.Cycles.{axis_at_opening}
 use Rattle.axis_core.specs.declared.axis.Axis.{Axis}
-use Rattle.axis_state.specs.declared.definition.AxisDef.{AxisDef}
-use Rattle.command_pool.specs.declared.kind.BlockKind.TheVariants.{Power}
+use Rattle.plc_types.specs.declared.axis.AxisDef.{AxisDef}
+use Rattle.plc_types.specs.declared.kind.BlockKind.TheVariants.{Power}
 use Rattle.command_pool.specs.declared.wanted.Wanted.{Wanted}
 use Rattle.fb_outputs.specs.InstanceState.{InstanceState}
 use Rattle.fb_outputs.specs.Steps as instance

@@ -6,8 +6,9 @@ ghost use Rattle.motion_kernel.specs.Seen.{machine_of};
 
 use crate::asking::is_done_at_once;
 use crate::parts::Parts;
-use command_pool::{BlockKind, Finish, Refusal};
+use command_pool::{Finish, Refusal};
 use fb_outputs::Instance;
+use plc_types::BlockKind;
 
 // What an instance is notified of its own call.
 fn tell_answer(kind: BlockKind, answer: Result<bool, Refusal>, instance: &mut Instance)

@@ -3,8 +3,8 @@
 ghost use Rattle.std.specs.Prelude.{◌≡◌};
 ghost use Rattle.motion_kernel.specs.calls.Asking as spec;
 
-use command_pool::{BlockKind, Follow, Rates, Wanted};
-use fb_outputs::Inputs;
+use command_pool::{Follow, Rates, Wanted};
+use plc_types::{BlockKind, Inputs};
 
 // The target that a call fixes: the first position of a MoveAbsolute and a Home.
 fn target_of(kind: BlockKind, inputs: &Inputs) -> Option<i64>

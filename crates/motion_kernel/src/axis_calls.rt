@@ -20,9 +20,9 @@ use crate::memberships::Membership;
 use crate::parts::Parts;
 use crate::telling::tell;
 use command_pool::{Notes, Refusal, Wanted};
-use fb_outputs::Inputs;
 use group_core::GroupState;
 use motion_history::BlockDef;
+use plc_types::Inputs;
 
 /// Takes the Enable of a Power.
 pub fn power_axis(n: u8, enable: bool, parts: &mut Parts)

@@ -1,7 +1,7 @@
 // What a cycle makes of the axes.
 
 ghost use Rattle.std.specs.Prelude.{◌≡◌, ◌<◌, ◌++◌, ◌∷◌, [], ℕ, length, map, pos, slice_index_or, slice_set};
-ghost use Rattle.axis_state.specs.declared.definition.AxisRow.{AxisRow};
+ghost use Rattle.plc_types.specs.declared.axis.AxisRow.{AxisRow};
 ghost use Rattle.motion_history.specs.Entries.{cycles_of};
 ghost use Rattle.motion_kernel.specs.looks.Around.{around_of};
 ghost use Rattle.motion_kernel.specs.cycles.AxisCycles as spec;
@@ -13,10 +13,9 @@ use crate::axis_looks::{Around, axis_look};
 use crate::layout::Layout;
 use crate::parts::Parts;
 use crate::telling::tell_and_clear;
-use axis_state::AxisRow;
-use cia402_machine::DriveOut;
 use command_pool::Notes;
 use motion_history::History;
+use plc_types::{AxisRow, DriveOut};
 
 // An axis goes through the cycle: there are no notes before it, and none after it.
 fn cycle_axis(

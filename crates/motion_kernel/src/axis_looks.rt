@@ -14,9 +14,9 @@ use crate::memberships::Membership;
 use crate::parts::Parts;
 use crate::telling::is_held;
 use axis_core::{AxisCore, AxisLook};
-use cia402_machine::DriveIn;
 use command_pool::Follow;
 use group_core::GroupStep;
+use plc_types::DriveIn;
 
 /// What the axes look at in a cycle.
 #[derive(Clone, Copy)]

@@ -1,7 +1,7 @@
 // A block call: what it makes of the machine, and its reply.
 
 ghost use Rattle.std.specs.Prelude.{◌≡◌, ◌<◌, if◌then◌else◌, IfSome, Some, length, map, slice_get};
-ghost use Rattle.command_pool.specs.Kinds.{acts_on_group};
+ghost use Rattle.plc_types.specs.Kinds.{acts_on_group};
 ghost use Rattle.fb_outputs.specs.Steps as step;
 ghost use Rattle.motion_history.specs.declared.config.BlockDef.{BlockDef};
 ghost use Rattle.motion_kernel.specs.calls.Calls as spec;
@@ -16,9 +16,9 @@ use crate::detaching::detach;
 use crate::group_calls::call_group;
 use crate::layout::Layout;
 use crate::parts::Parts;
-use command_pool::BlockKind;
-use fb_outputs::{Edge, Inputs, Outputs};
+use fb_outputs::Edge;
 use motion_history::BlockDef;
+use plc_types::{BlockKind, Inputs, Outputs};
 
 /// A call of a block.
 #[derive(Clone, Copy)]

@@ -9,8 +9,8 @@ ghost use Rattle.motion_kernel.specs.kept.Machine.{AreWhole};
 
 use crate::laws::machines_stay_kept;
 use axis_core::axes_keep_their_definitions;
-use axis_state::{counts_are_read_back, offsets_are_small};
 use motion_history::configurations_are_sound;
+use plc_types::{counts_are_read_back, offsets_are_small};
 
 /// In every cycle of a past, with the offset of each row every place within the limits of
 /// its axis has a count of 32 bits in the increments of its drive, and what its drive reported is

@@ -2,7 +2,7 @@
 
 ghost use Rattle.std.specs.Prelude.{◌≡◌, ◌<◌, length, if◌then◌else◌, IfSome, Some, map, slice_get};
 ghost use Rattle.axis_core.specs.Owners.{core_without_owner};
-ghost use Rattle.command_pool.specs.Kinds.{acts_on_group};
+ghost use Rattle.plc_types.specs.Kinds.{acts_on_group};
 ghost use Rattle.group_core.specs.Calls.{disowned};
 ghost use Rattle.motion_kernel.specs.calls.Calls as spec;
 ghost use Rattle.motion_kernel.specs.kept.Machine.{IsSized};

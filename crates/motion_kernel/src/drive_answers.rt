@@ -1,11 +1,11 @@
 // The drives' answers of a cycle.
 
 ghost use Rattle.std.specs.Prelude.{◌≡◌, ◌<◌, ◌++◌, ◌∷◌, [], ℕ, length, map, pos, slice_index_or, slice_set, All};
-ghost use Rattle.axis_state.specs.Counts.{IsCount};
-ghost use Rattle.cia402_machine.specs.declared.drive.DriveIn.{DriveIn};
+ghost use Rattle.plc_types.specs.Counts.{IsCount};
+ghost use Rattle.plc_types.specs.declared.drive.DriveIn.{DriveIn};
 ghost use Rattle.motion_kernel.specs.looks.DriveAnswers as spec;
 
-use cia402_machine::DriveIn;
+use plc_types::DriveIn;
 
 /// The drive's answer for an axis.
 pub fn answer_at(ins: &[DriveIn], axis: u8) -> DriveIn

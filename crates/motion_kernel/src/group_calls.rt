@@ -21,8 +21,8 @@ use crate::leading::lead_members;
 use crate::parts::Parts;
 use crate::telling::tell;
 use command_pool::{Notes, Refusal, Wanted};
-use fb_outputs::Inputs;
 use motion_history::BlockDef;
+use plc_types::Inputs;
 
 /// The list in which commands wait for a group: after those of the axes.
 pub fn list_of(group: u8, parts: &Parts) -> u8

@@ -19,10 +19,10 @@ use crate::layout::Layout;
 use crate::parts::Parts;
 use crate::telling::tell;
 use axis_core::AxisCore;
-use cia402_machine::DriveIn;
 use command_pool::Notes;
 use group_core::{GroupRow, GroupStep};
 use motion_history::History;
+use plc_types::DriveIn;
 
 // The error that the first of some axes gets from its drive's answer, or 0.
 fn first_error(members: &[u8], axes: &[AxisCore], ins: &[DriveIn]) -> u16

@@ -11,9 +11,8 @@ use crate::layout::Layout;
 use crate::parts::Parts;
 use crate::telling::is_held;
 use axis_core::AxisCore;
-use axis_state::AxisState;
 use group_core::GroupLook;
-use kin_core::Limits;
+use plc_types::{AxisState, Limits};
 
 const NO_LIMITS: Limits = Limits {
     lo: 0,

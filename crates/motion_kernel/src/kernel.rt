@@ -2,8 +2,8 @@
 
 ghost use Rattle.std.specs.Prelude.{◌≡◌, ◌<◌, ◌≤◌, ◌+◌, ◌-◌, ◌++◌, ◌∷◌, [], length, map, IfOk, IsSomeAnd, slice_get, All, true, false};
 ghost use Rattle.std.specs.Option.{option_map};
-ghost use Rattle.axis_state.specs.declared.definition.AxisRow.{AxisRow};
-ghost use Rattle.cia402_machine.specs.declared.drive.DriveIn.{DriveIn};
+ghost use Rattle.plc_types.specs.declared.axis.AxisRow.{AxisRow};
+ghost use Rattle.plc_types.specs.declared.drive.DriveIn.{DriveIn};
 ghost use Rattle.motion_history.specs.Bits.{HasBits};
 ghost use Rattle.motion_history.specs.Calls.{IsCall};
 ghost use Rattle.motion_history.specs.Entries.{call, cycle, end_of, cycles_of};
@@ -18,9 +18,8 @@ ghost use Rattle.motion_kernel.specs.Tasks.{live_tasks, quiet_tasks};
 
 use crate::segmented::SegmentedKernel;
 use crate::tasks::TaskMarks;
-use cia402_machine::{DriveIn, DriveOut};
-use fb_outputs::{Inputs, Outputs};
 use motion_history::{Config, CycleLook, History, OutOfMemory, configurations_are_sound};
+use plc_types::{DriveIn, DriveOut, Inputs, Outputs};
 use std::alloc::{AllocError, Global};
 use std::marker::Model;
 

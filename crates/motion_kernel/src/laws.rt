@@ -1,9 +1,9 @@
 // Laws of the machine: each is the contract of a function that does nothing.
 
 ghost use Rattle.std.specs.Prelude.{◌≡◌, ◌<◌, ℕ, List, Some, length, slice_get};
-ghost use Rattle.axis_state.specs.Counts.{IsCount};
-ghost use Rattle.cia402_machine.specs.declared.drive.DriveIn.{DriveIn};
-ghost use Rattle.fb_outputs.specs.declared.inputs.Inputs.{Inputs};
+ghost use Rattle.plc_types.specs.Counts.{IsCount};
+ghost use Rattle.plc_types.specs.declared.drive.DriveIn.{DriveIn};
+ghost use Rattle.plc_types.specs.declared.inputs.Inputs.{Inputs};
 ghost use Rattle.motion_history.specs.Calls.{IsCall};
 ghost use Rattle.motion_history.specs.Setup.{Setup, IsSetup};
 ghost use Rattle.motion_history.specs.declared.config.BlockDef.{BlockDef};

@@ -11,8 +11,8 @@ ghost use Rattle.motion_kernel.specs.Seen.{machine_of};
 use crate::layout::Layout;
 use crate::parts::Parts;
 use axis_core::AxisCore;
-use axis_state::AxisState;
-use command_pool::{BlockKind, Refusal};
+use command_pool::Refusal;
+use plc_types::{AxisState, BlockKind};
 
 // An axis goes on its group's path, unless a command moves it.
 fn lead_on(axis: &mut AxisCore)

@@ -1,7 +1,7 @@
 // One cycle of the machine.
 
 ghost use Rattle.std.specs.Prelude.{◌≡◌, IfOk, length, map};
-ghost use Rattle.axis_state.specs.declared.definition.AxisRow.{AxisRow};
+ghost use Rattle.plc_types.specs.declared.axis.AxisRow.{AxisRow};
 ghost use Rattle.motion_kernel.specs.cycles.Asides.{HasPlaces, MayTakeCycle};
 ghost use Rattle.motion_kernel.specs.looks.AxisLooks as looks;
 ghost use Rattle.motion_kernel.specs.cycles.Cycles as spec;
@@ -16,9 +16,9 @@ use crate::layout::Layout;
 use crate::parts::Parts;
 use crate::showing::show_cycle;
 use axis_core::AxisCore;
-use cia402_machine::{DriveIn, DriveOut};
 use group_core::GroupStep;
 use motion_history::History;
+use plc_types::{DriveIn, DriveOut};
 use std::alloc::{AllocError, Global};
 
 // The setpoints of all axes.

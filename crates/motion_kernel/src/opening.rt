@@ -14,10 +14,11 @@ ghost use Rattle.motion_kernel.specs.Seen.{machine_of, placed};
 use crate::layout::Layout;
 use crate::parts::Parts;
 use axis_core::AxisCore;
-use command_pool::{BlockKind, CommandPool};
+use command_pool::CommandPool;
 use fb_outputs::Instance;
 use group_core::{GroupCore, LinePath};
 use motion_history::{AxisDef, BlockDef, GroupDef, OutOfMemory, configurations_are_sound};
+use plc_types::BlockKind;
 use std::alloc::{AllocError, Global};
 
 // The axes at opening.

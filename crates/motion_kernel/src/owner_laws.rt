@@ -1,8 +1,8 @@
 // The law of whose commands are where: the contract of a function that does nothing.
 
 ghost use Rattle.std.specs.Prelude.{ℕ, List};
-ghost use Rattle.cia402_machine.specs.declared.drive.DriveIn.{DriveIn};
-ghost use Rattle.fb_outputs.specs.declared.inputs.Inputs.{Inputs};
+ghost use Rattle.plc_types.specs.declared.drive.DriveIn.{DriveIn};
+ghost use Rattle.plc_types.specs.declared.inputs.Inputs.{Inputs};
 ghost use Rattle.motion_history.specs.Calls.{IsCall};
 ghost use Rattle.motion_history.specs.Setup.{Setup};
 ghost use Rattle.motion_kernel.specs.calls.Calls.{after_call};

@@ -4,8 +4,8 @@ ghost use Rattle.std.specs.Prelude.{◌≡◌, IfOk, OnOk};
 ghost use Rattle.motion_history.specs.Setup.{IsSetup};
 ghost use Rattle.motion_kernel.specs.cycles.Polled as spec;
 
-use command_pool::BlockKind;
 use motion_history::Config;
+use plc_types::BlockKind;
 use std::alloc::{AllocError, Global};
 
 // Whether an instance of a block of this kind finds something at a cycle's end.

@@ -3,8 +3,8 @@
 
 ghost use Rattle.std.specs.Prelude.{◌≡◌, ◌<◌, ◌≤◌, ◌+◌, ◌-◌, ◌++◌, ◌∷◌, [], length, map, IfOk, All};
 ghost use Rattle.std.specs.Option.{option_map};
-ghost use Rattle.axis_state.specs.declared.definition.AxisRow.{AxisRow};
-ghost use Rattle.cia402_machine.specs.declared.drive.DriveIn.{DriveIn};
+ghost use Rattle.plc_types.specs.declared.axis.AxisRow.{AxisRow};
+ghost use Rattle.plc_types.specs.declared.drive.DriveIn.{DriveIn};
 ghost use Rattle.motion_history.specs.Bits.{HasBits};
 ghost use Rattle.motion_history.specs.Calls.{IsCall};
 ghost use Rattle.motion_history.specs.Entries.{call, cycle, end_of, cycles_of};
@@ -26,11 +26,10 @@ use crate::owner_laws::owners_have_blocks;
 use crate::parts::Parts;
 use crate::segment::{Before, Segment};
 use crate::start::Start;
-use cia402_machine::{DriveIn, DriveOut};
-use fb_outputs::{Inputs, Outputs};
 use motion_history::{
     Config, CycleLook, History, OutOfMemory, configurations_are_sound, cycles_add_up,
 };
+use plc_types::{DriveIn, DriveOut, Inputs, Outputs};
 use std::alloc::Global;
 use std::marker::Model;
 

@@ -1,7 +1,7 @@
 // What the instances show after a cycle.
 
 ghost use Rattle.std.specs.Prelude.{◌≡◌, ◌<◌, length, map, Some, if◌then◌else◌};
-ghost use Rattle.command_pool.specs.Kinds.{acts_on_group};
+ghost use Rattle.plc_types.specs.Kinds.{acts_on_group};
 ghost use Rattle.motion_kernel.specs.cycles.Showing as spec;
 ghost use Rattle.motion_kernel.specs.kept.Machine.{IsSized};
 ghost use Rattle.motion_kernel.specs.Seen.{machine_of, placed};
@@ -11,11 +11,10 @@ use crate::layout::Layout;
 use crate::parts::Parts;
 use crate::telling::show_active;
 use axis_core::AxisCore;
-use axis_state::AxisState;
-use command_pool::BlockKind;
 use fb_outputs::Instance;
 use group_core::{GroupCore, GroupState, LinePath};
 use motion_history::{BlockDef, configurations_are_sound};
+use plc_types::{AxisState, BlockKind};
 
 // Shows the owner of an axis's active command what that has reached.
 fn show_axis(axis: &AxisCore, instances: &mut [Instance])

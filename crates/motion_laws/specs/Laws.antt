@@ -1,6 +1,6 @@
 -- What every past keeps.
 use Rattle.std.specs.Prelude.{◌≡◌, List, ◌++◌}
-use Rattle.motion_history.specs.Columns.{KeepTheirLimits}
+use Rattle.motion_laws.specs.limits.Rows.{KeepTheirLimits}
 use Rattle.motion_history.specs.Entries.{Entry}
 use Rattle.motion_history.specs.Setup.{Setup}
 use Rattle.motion_kernel.specs.Counted.{RowsAreCounted}

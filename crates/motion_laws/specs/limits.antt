@@ -1,2 +1,3 @@
 -- Limits that are kept, and commands that wait.
 pub mod Safe
+pub mod Rows

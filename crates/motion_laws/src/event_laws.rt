@@ -1,10 +1,10 @@
 // The law of states by their events: the contract of a function that does nothing.
 
 ghost use Rattle.std.specs.Prelude.{ℕ, List, ◌∷◌, ◌++◌};
-ghost use Rattle.axis_state.specs.declared.definition.AxisRow.{AxisRow};
-ghost use Rattle.fb_outputs.specs.declared.inputs.Inputs.{Inputs};
-ghost use Rattle.fb_outputs.specs.declared.outputs.Outputs.{Outputs};
-ghost use Rattle.group_state.specs.declared.state.GroupRow.{GroupRow};
+ghost use Rattle.plc_types.specs.declared.axis.AxisRow.{AxisRow};
+ghost use Rattle.plc_types.specs.declared.inputs.Inputs.{Inputs};
+ghost use Rattle.plc_types.specs.declared.outputs.Outputs.{Outputs};
+ghost use Rattle.plc_types.specs.declared.group.GroupRow.{GroupRow};
 ghost use Rattle.motion_history.specs.Calls.{IsCall};
 ghost use Rattle.motion_history.specs.Entries.{Entry, call, cycle};
 ghost use Rattle.motion_history.specs.Setup.{Setup, IsSetup};

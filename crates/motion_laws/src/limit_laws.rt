@@ -5,7 +5,7 @@ ghost use Rattle.command_pool.specs.Waiting.{queue_of};
 ghost use Rattle.group_core.specs.GroupKept.{IsPathOf};
 ghost use Rattle.group_core.specs.Tracks.{OnPath};
 ghost use Rattle.kin_core.specs.Admissible.{IsKept};
-ghost use Rattle.motion_history.specs.Columns.{KeepTheirLimits};
+ghost use Rattle.motion_laws.specs.limits.Rows.{KeepTheirLimits};
 ghost use Rattle.motion_history.specs.Entries.{Entry};
 ghost use Rattle.motion_history.specs.Setup.{Setup, IsSetup};
 ghost use Rattle.motion_kernel.specs.Histories.{IsPast, replay};

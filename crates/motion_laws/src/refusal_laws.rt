@@ -1,8 +1,8 @@
 // Laws of refused calls: each is the contract of a function that does nothing.
 
 ghost use Rattle.std.specs.Prelude.{◌≡◌, ◌<◌, ℕ, List, [], ◌∷◌, ◌++◌, length};
-ghost use Rattle.fb_outputs.specs.declared.inputs.Inputs.{Inputs};
-ghost use Rattle.fb_outputs.specs.declared.outputs.Outputs.{Outputs};
+ghost use Rattle.plc_types.specs.declared.inputs.Inputs.{Inputs};
+ghost use Rattle.plc_types.specs.declared.outputs.Outputs.{Outputs};
 ghost use Rattle.motion_history.specs.Entries.{Entry, call};
 ghost use Rattle.motion_history.specs.Setup.{Setup, IsSetup};
 ghost use Rattle.motion_kernel.specs.calls.Calls.{after_call, reply_of};

@@ -1,10 +1,10 @@
 // The law of replies: the contract of a function that does nothing.
 
 ghost use Rattle.std.specs.Prelude.{◌≡◌, ◌<◌, ℕ, false, Some, List, ◌∷◌, ◌++◌, length, slice_get};
-ghost use Rattle.cia402_machine.specs.declared.drive.DriveIn.{DriveIn};
+ghost use Rattle.plc_types.specs.declared.drive.DriveIn.{DriveIn};
 ghost use Rattle.fb_outputs.specs.Steps.{is_power};
-ghost use Rattle.fb_outputs.specs.declared.inputs.Inputs.{Inputs};
-ghost use Rattle.fb_outputs.specs.declared.outputs.Outputs.{Outputs};
+ghost use Rattle.plc_types.specs.declared.inputs.Inputs.{Inputs};
+ghost use Rattle.plc_types.specs.declared.outputs.Outputs.{Outputs};
 ghost use Rattle.motion_history.specs.Entries.{Entry, call};
 ghost use Rattle.motion_history.specs.Setup.{Setup, IsSetup};
 ghost use Rattle.motion_history.specs.declared.config.BlockDef.{BlockDef};

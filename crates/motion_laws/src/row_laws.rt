@@ -1,8 +1,8 @@
 // Laws of rows: each is the contract of a function that does nothing.
 
 ghost use Rattle.std.specs.Prelude.{List, ◌∷◌, ◌++◌};
-ghost use Rattle.axis_state.specs.declared.definition.AxisRow.{AxisRow};
-ghost use Rattle.group_state.specs.declared.state.GroupRow.{GroupRow};
+ghost use Rattle.plc_types.specs.declared.axis.AxisRow.{AxisRow};
+ghost use Rattle.plc_types.specs.declared.group.GroupRow.{GroupRow};
 ghost use Rattle.motion_history.specs.Entries.{Entry};
 ghost use Rattle.motion_history.specs.Setup.{Setup, IsSetup};
 ghost use Rattle.motion_kernel.specs.Histories.{IsCycleOf, IsPast, after, inputs_of, machine_after};

@@ -2,9 +2,9 @@
 -- for: cycles_take_the_answers, cycles_end_with_the_tasks
 use Rattle.std.proofs.Common.{◌≡◌, ℕ, suc, ◌+◌, ◌<◌, ◌≤◌, ◌++◌, ◌∷◌, [], List, length, Some, ap, ◌∙◌, arith, length-append}
 use Rattle.std.specs.Prelude.{Bool, true, false, ◌==◌, slice_get}
-use Rattle.axis_state.specs.declared.definition.AxisRow.{AxisRow}
+use Rattle.plc_types.specs.declared.axis.AxisRow.{AxisRow}
 use Rattle.drive_sim.specs.Sim.{DriveSim}
-use Rattle.group_state.specs.declared.state.GroupRow.{GroupRow}
+use Rattle.plc_types.specs.declared.group.GroupRow.{GroupRow}
 use Rattle.motion_history.specs.Entries.{Entry, call, cycle, cycles_of, end_of}
 use Rattle.motion_history.specs.Setup.{Setup}
 use Rattle.motion_plant.specs.Driven.{IsAlive, IsDriven}

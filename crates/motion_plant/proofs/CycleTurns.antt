@@ -1,8 +1,8 @@
 -- What a cycle's turn leaves.
 -- for: run_plant
 use Rattle.std.proofs.Common.{◌≡◌, ◌≢◌, ℕ, List, [], ◌∷◌, ◌++◌, length, sym, ap, ◌∙◌, subst, arith, ⊎_elim}
-use Rattle.cia402_machine.specs.declared.drive.DriveIn.{DriveIn}
-use Rattle.cia402_machine.specs.declared.drive.DriveOut.{DriveOut}
+use Rattle.plc_types.specs.declared.drive.DriveIn.{DriveIn}
+use Rattle.plc_types.specs.declared.drive.DriveOut.{DriveOut}
 use Rattle.kernel_turn.specs.Events.{cycle_of, outputs_of}
 use Rattle.motion_kernel.specs.KernelState.{with_entry}
 use Rattle.kernel_turn.specs.PermitState.{PermitState}

@@ -1,8 +1,8 @@
 -- The calls among logged entries, entry by entry.
 -- for: run_plant
 use Rattle.std.proofs.Common.{◌≡◌, ℕ, ◌+◌, ◌≤◌, List, [], ◌∷◌, ◌++◌, map, Bool, true, false, refl, sym, ap, ◌∙◌, subst, arith, append_assoc, append-nil}
-use Rattle.fb_outputs.specs.declared.inputs.Inputs.{Inputs}
-use Rattle.fb_outputs.specs.declared.outputs.Outputs.{Outputs}
+use Rattle.plc_types.specs.declared.inputs.Inputs.{Inputs}
+use Rattle.plc_types.specs.declared.outputs.Outputs.{Outputs}
 use Rattle.motion_plant.specs.Calls.{AreCalls, IsCut, calls_in, entry_of, fixed_part, logged_calls}
 use Rattle.motion_plant.specs.Makers.{IsBy, Logged, Owns, own_entries}
 use Rattle.motion_plant.specs.TaskEnds.{TaskDone, TaskMade}

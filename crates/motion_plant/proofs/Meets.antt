@@ -4,7 +4,7 @@ use Rattle.std.proofs.Common.{◌≡◌, ℕ, suc, ◌+◌, ◌<◌, ◌≤◌, 
 use Rattle.std.specs.Prelude.{slice_get, ◌||◌}
 use mathlib.Core.List.{IsPrefix}
 use Rattle.std.specs.declared.snapshot.Snapshot.{Snapshot}
-use Rattle.cia402_machine.specs.declared.drive.DriveIn.{DriveIn}
+use Rattle.plc_types.specs.declared.drive.DriveIn.{DriveIn}
 use Rattle.drive_jobs.specs.Log.{IsLogOf}
 use Rattle.drive_jobs.specs.DriveLinkState.{DriveLinkState}
 use Rattle.drive_jobs.specs.declared.drive_job.DriveJob.{DriveJob}

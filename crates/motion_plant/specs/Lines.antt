@@ -1,8 +1,8 @@
 -- The lines to the drives, as outputs go into them and answers come. This project's profile.
 use Rattle.std.specs.Prelude.{◌≡◌, ◌≤◌, ℕ, List, [], ◌∷◌, ◌++◌, map, length, true, false, Some, slice_get}
-use Rattle.axis_state.specs.declared.definition.AxisDef.{AxisDef}
-use Rattle.cia402_machine.specs.declared.drive.DriveIn.{DriveIn}
-use Rattle.cia402_machine.specs.declared.drive.DriveOut.{DriveOut}
+use Rattle.plc_types.specs.declared.axis.AxisDef.{AxisDef}
+use Rattle.plc_types.specs.declared.drive.DriveIn.{DriveIn}
+use Rattle.plc_types.specs.declared.drive.DriveOut.{DriveOut}
 use Rattle.drive_jobs.specs.DriveLinkState.{DriveLinkState}
 use Rattle.drive_jobs.specs.Log.{IsLogOf}
 use Rattle.drive_jobs.specs.declared.drive_job.DriveJob.{DriveJob}

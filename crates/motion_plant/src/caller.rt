@@ -9,9 +9,9 @@ ghost use Rattle.motion_plant.specs.Makers.{IsBy, Owns, own_entries};
 ghost use Rattle.task_run.specs.Callers.{cycles_from};
 
 use crossbeam_utils::Backoff;
-use fb_outputs::{Inputs, Outputs};
 use kernel_turn::{KernelTurn, Permit, Turn};
 use outside::Gate;
+use plc_types::{Inputs, Outputs};
 use std::sync::Wait;
 use task_run::Caller;
 

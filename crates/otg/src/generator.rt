@@ -4,7 +4,7 @@ ghost use Rattle.std.specs.Prelude.{◌≡◌};
 ghost use Rattle.otg.specs.Open.{limits_of, rates_of_command, setpoints_of};
 
 use jerk_core::{JerkLimits, JerkRates, Setpoints};
-use kin_core::Limits;
+use plc_types::Limits;
 
 /// A generator. C fills its limits, and from [`otg_open`](crate::otg_open) on only the library
 /// changes it. All is in internal units, and in units per cycle, per cycle^2 and per cycle^3.

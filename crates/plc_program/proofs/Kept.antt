@@ -6,7 +6,7 @@ use Rattle.std.specs.List.{AllByRecursion}
 use Rattle.std.specs.Option.{ok_or}
 use Rattle.std.proofs.lemmas.Bool.{and_parts, cases_Bool, ltb-true, not-true}
 use Rattle.std.proofs.lemmas.List.{append-nil, length-append}
-use Rattle.fb_outputs.specs.declared.inputs.Inputs.{Inputs}
+use Rattle.plc_types.specs.declared.inputs.Inputs.{Inputs}
 use Rattle.line_text.specs.Lines.{lines_of}
 use Rattle.line_text.specs.Reading.{◌>>=◌, at_line, line_meaning, lines_meaning, text_meaning}
 use Rattle.line_text.specs.Words.{is_clean, words_of}
@@ -25,7 +25,7 @@ use Rattle.motion_history.specs.Setup.{Setup}
 use Rattle.motion_history.specs.declared.config.BlockDef.{BlockDef}
 use Rattle.plc_program.specs.Calls.{call_meaning}
 use Rattle.plc_program.specs.Forms.{form_of, is_counted}
-use Rattle.fb_outputs.specs.Flags.{flag_named}
+use Rattle.plc_types.specs.Flags.{flag_named}
 use Rattle.plc_program.specs.Lines.{block_meaning, repeat_meaning, wait_meaning}
 use Rattle.plc_program.specs.Named.{block_named}
 use Rattle.plc_program.specs.Programs.{AreTasksOf, IsBehindItsCall, IsCounted, IsLineOf, IsTask, is_called, repeating_after}

@@ -13,6 +13,6 @@ mod reading;
 mod version;
 mod wait;
 
-pub use fb_outputs::Flag;
+pub use plc_types::Flag;
 pub use program::{Instruction, MOST_INSTRUCTIONS, MOST_TIMES, Program};
 pub use reading::read_program;

@@ -3,7 +3,7 @@
 ghost use Rattle.std.specs.Prelude.{◌≡◌, ◌<◌, [], length, slice_index_or};
 ghost use Rattle.plc_program.specs.Programs.{IsProgram};
 
-use fb_outputs::{Flag, Inputs};
+use plc_types::{Flag, Inputs};
 use std::marker::Model;
 
 /// The most instructions of a task.

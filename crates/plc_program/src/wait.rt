@@ -9,9 +9,9 @@ ghost use Rattle.plc_program.specs.Programs as programs;
 use crate::name::block_named;
 use crate::program::{Instruction, MOST_TIMES};
 use crate::reader::ProgramReader;
-use fb_outputs::flag_named;
 use line_text::{LineFault, broken_unless, in_range};
 use machine_words::{NO_VALUE, OUT_OF_RANGE, WRONG_COUNT, number};
+use plc_types::flag_named;
 
 // Whether an instruction calls the block with inputs of its own.
 fn is_call_of(block: u16, line: &Instruction) -> bool

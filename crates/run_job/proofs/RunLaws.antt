@@ -3,7 +3,7 @@
 use Rattle.std.specs.Prelude.{true, false, ◌≡◌, ◌≢◌, ◌↔◌, ◌+◌, refl, ℕ, Option, Result, List, [], ◌∷◌, length, map}
 use Rattle.std.specs.Arc.{arc_value}
 use Rattle.std.proofs.Common.{◌∙◌, inr, sym, ap, subst, arith}
-use Rattle.axis_state.specs.declared.definition.AxisDef.{AxisDef}
+use Rattle.plc_types.specs.declared.axis.AxisDef.{AxisDef}
 use Rattle.job_ends.specs.Causes.{is_traced}
 use Rattle.job_ends.specs.Ends.{EndsEarly, status_by}
 use Rattle.job_ends.specs.Follows.{FollowPlans}

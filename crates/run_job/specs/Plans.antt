@@ -2,7 +2,7 @@
 use Rattle.std.specs.Prelude.{codes, List}
 use Rattle.std.specs.Option.{unwrap_or}
 use Rattle.cia402_machine.specs.Statusword.{state_of_word}
-use Rattle.cia402_machine.specs.declared.drive.DriveState.TheVariants.{NotReady}
+use Rattle.plc_types.specs.declared.drive.DriveState.TheVariants.{NotReady}
 use Rattle.job_ends.specs.Plans.{Plan}
 use Rattle.job_ends.specs.declared.status.Status.{Status}
 use Rattle.job_ends.specs.declared.status.Status.TheVariants as status

@@ -9,11 +9,12 @@ ghost use Rattle.trace_text.specs.RowRanges.{IsDriveEnd};
 ghost use Rattle.trace_text.specs.Trace.{trace_text};
 ghost use Rattle.trace_text.specs.writing.Writes.{Writes};
 
-use cia402_machine::{DriveState, state_of};
+use cia402_machine::state_of;
 use job_ends::{Status, ends_follow_plans, status_by};
 use motion_history::TraceVersion;
 use motion_plant::{PlantEnd, RunEnding, ending_of};
 use outside::Sink;
+use plc_types::DriveState;
 use setpoint_ring::DriveLog;
 use std::alloc::{AllocError, Global};
 use trace_check::kept_histories_are_read_back;

@@ -7,8 +7,8 @@ use Rattle.std.specs.Option.{option_to_list}
 use Rattle.std.proofs.lemmas.List.{append-nil}
 use Rattle.std.proofs.lemmas.List.Sums.{sum_by-append, count_by-le-length}
 use Rattle.std.proofs.lemmas.Grind.{common_steps, flat_map-append}
-use Rattle.axis_state.specs.declared.definition.AxisRow.{AxisRow}
-use Rattle.fb_outputs.specs.declared.outputs.Outputs.{Outputs}
+use Rattle.plc_types.specs.declared.axis.AxisRow.{AxisRow}
+use Rattle.plc_types.specs.declared.outputs.Outputs.{Outputs}
 use Rattle.motion_history.specs.Entries.{Entry, call, cycle, end_of}
 use Rattle.out_of_memory.specs.declared.OutOfMemory.{OutOfMemory}
 use Rattle.scope_report.proofs.Cutting.{take-further}

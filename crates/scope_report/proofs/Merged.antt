@@ -7,7 +7,7 @@ use Rattle.std.proofs.lemmas.List.{append-nil, map-append}
 use Rattle.std.proofs.lemmas.List.Elements.{filter-append}
 use Rattle.std.proofs.lemmas.List.Sums.{sum_by-append}
 use Rattle.std.proofs.lemmas.Grind.{common_steps}
-use Rattle.axis_state.specs.declared.definition.AxisRow.{AxisRow}
+use Rattle.plc_types.specs.declared.axis.AxisRow.{AxisRow}
 use Rattle.scope_report.specs.Merging.{between, first_of, first_there, last_from, last_of, merged, part_of}
 use Rattle.scope_report.specs.Setpoints.{driven_of, greatest_of, least_of, neighbours_of, pairs_from, pick_of, picked, setpoints_of, still_of, travel_of}
 

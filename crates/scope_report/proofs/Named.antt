@@ -1,7 +1,7 @@
 -- One axis or one block more is named.
 -- for: scope
 use Rattle.std.proofs.Common.{◌≡◌, ℕ, suc, ◌+◌, List, [], ◌∷◌, ◌++◌, length, ap, ◌∙◌, arith}
-use Rattle.axis_state.specs.declared.definition.AxisDef.{AxisDef}
+use Rattle.plc_types.specs.declared.axis.AxisDef.{AxisDef}
 use Rattle.motion_history.specs.Entries.{Entry}
 use Rattle.motion_history.specs.declared.config.BlockDef.{BlockDef}
 use Rattle.scope_report.specs.Replies.{replies_of}

@@ -1,6 +1,6 @@
 -- What is reported of a block's replies. This project's profile.
 use Rattle.std.specs.Prelude.{◌+◌, ◌<◌, ◌^◌, List, length, count_by}
-use Rattle.fb_outputs.specs.declared.outputs.Outputs.{Outputs}
+use Rattle.plc_types.specs.declared.outputs.Outputs.{Outputs}
 use Rattle.scope_report.specs.declared.counts.Counts.{Counts}
 
 -- how many there are, and how many show Done and Error

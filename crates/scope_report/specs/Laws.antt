@@ -2,8 +2,8 @@
 use Rattle.std.specs.Prelude.{◌≡◌, ◌≤ℤ◌, ◌<◌, ◌+◌, ◌-◌, ◌-ℤ◌, ℕ, ℤ, pos, unsigned_abs, Option, Some, None, List, [], length, slice_get, slice_index_or, count_by, All, Contains}
 use Rattle.std.specs.List.{sum_by}
 use Rattle.std.specs.Ordering.{int_eq}
-use Rattle.axis_state.specs.declared.definition.AxisDef.{AxisDef}
-use Rattle.axis_state.specs.declared.definition.AxisRow.{AxisRow}
+use Rattle.plc_types.specs.declared.axis.AxisDef.{AxisDef}
+use Rattle.plc_types.specs.declared.axis.AxisRow.{AxisRow}
 use Rattle.motion_history.specs.declared.config.BlockDef.{BlockDef}
 use Rattle.trace_text.specs.TraceState.{TraceState, entries_of}
 use Rattle.scope_report.specs.Replies.{replies_of}

@@ -2,7 +2,7 @@
 -- profile.
 use Rattle.std.specs.Prelude.{ℤ, ◌+◌, Option, Some, None, List, [], ◌∷◌, length}
 use Rattle.std.specs.Int.{int_min, int_max}
-use Rattle.axis_state.specs.declared.definition.AxisRow.{AxisRow}
+use Rattle.plc_types.specs.declared.axis.AxisRow.{AxisRow}
 use Rattle.scope_report.specs.Parts.{PartState}
 use Rattle.scope_report.specs.Setpoints.{driven_of, greatest_of, least_of, neighbours_of, picked, setpoints_of, still_of, travel_of}
 

@@ -1,8 +1,8 @@
 -- The scope report of a trace. This project's profile.
 use Rattle.std.specs.Prelude.{ℕ, suc, List, [], ◌∷◌, length, count_by}
-use Rattle.axis_state.specs.declared.definition.AxisDef.{AxisDef}
-use Rattle.axis_state.specs.declared.definition.AxisRow.{AxisRow}
-use Rattle.fb_outputs.specs.declared.outputs.Outputs.{Outputs}
+use Rattle.plc_types.specs.declared.axis.AxisDef.{AxisDef}
+use Rattle.plc_types.specs.declared.axis.AxisRow.{AxisRow}
+use Rattle.plc_types.specs.declared.outputs.Outputs.{Outputs}
 use Rattle.motion_history.specs.Entries.{Entry}
 use Rattle.motion_history.specs.declared.config.BlockDef.{BlockDef}
 use Rattle.trace_text.specs.TraceState.{TraceState, entries_of}

@@ -1,7 +1,7 @@
 -- What is reported of a share of a trace. This project's profile.
 use Rattle.std.specs.Prelude.{◌≡◌, ◌+◌, ◌^◌, ◌<◌, ℕ, List, length, slice_index_or, Result, IfOk}
-use Rattle.axis_state.specs.declared.definition.AxisRow.{AxisRow}
-use Rattle.fb_outputs.specs.declared.outputs.Outputs.{Outputs}
+use Rattle.plc_types.specs.declared.axis.AxisRow.{AxisRow}
+use Rattle.plc_types.specs.declared.outputs.Outputs.{Outputs}
 use Rattle.motion_history.specs.Entries.{Entry, call, cycle, end_of}
 use Rattle.motion_history.specs.Setup.{Setup}
 use Rattle.out_of_memory.specs.declared.OutOfMemory.{OutOfMemory}

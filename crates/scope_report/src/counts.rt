@@ -3,7 +3,7 @@
 ghost use Rattle.std.specs.Prelude.{◌≡◌, [], ◌∷◌};
 ghost use Rattle.scope_report.specs.Counting as spec;
 
-use fb_outputs::Outputs;
+use plc_types::Outputs;
 
 /// How often a block was called, and how many of the replies show Done and Error.
 #[derive(Clone, Copy)]

@@ -1,8 +1,8 @@
 // What is reported of a trace, with the names of its axes and blocks.
 
 ghost use Rattle.std.specs.Prelude.{◌≡◌, IfOk, List, length};
-ghost use Rattle.fb_outputs.specs.declared.outputs.Outputs.{Outputs};
-ghost use Rattle.axis_state.specs.declared.definition.AxisRow.{AxisRow};
+ghost use Rattle.plc_types.specs.declared.outputs.Outputs.{Outputs};
+ghost use Rattle.plc_types.specs.declared.axis.AxisRow.{AxisRow};
 ghost use Rattle.motion_history.specs.Entries.{Entry};
 ghost use Rattle.scope_report.specs.Counting.{counts_of};
 ghost use Rattle.scope_report.specs.Merging.{part_of};
@@ -14,9 +14,9 @@ use crate::counts::Counts;
 use crate::part::Part;
 use crate::report::{AxisReport, BlockReport, Report};
 use crate::share::Share;
-use axis_state::{AxisDef, Name};
 use motion_history::BlockDef;
 use out_of_memory::OutOfMemory;
+use plc_types::{AxisDef, Name};
 use std::alloc::Global;
 use trace_text::Trace;
 

@@ -5,7 +5,7 @@ ghost use Rattle.std.specs.Int.{int_min, int_max};
 ghost use Rattle.scope_report.specs.Merging as spec;
 ghost use Rattle.scope_report.specs.Setpoints.{picked, still_of, travel_of};
 
-use axis_state::AxisRow;
+use plc_types::AxisRow;
 use std::marker::Model;
 
 /// What is reported of some rows of an axis, and what joins it to those after them.

@@ -2,7 +2,7 @@
 
 ghost use Rattle.std.specs.Prelude.{◌≡◌};
 
-use axis_state::Name;
+use plc_types::Name;
 use std::marker::Model;
 
 /// What is reported of an axis, over all rows of a trace.

@@ -2,7 +2,7 @@
 -- project's profile.
 use Rattle.std.specs.Prelude.{◌≡◌, ℕ, Ok, Some, List, ◌∷◌, ◌++◌, drop}
 use Rattle.axis_core.specs.declared.axis.Axis.{Axis}
-use Rattle.axis_state.specs.declared.definition.AxisDef.{AxisDef}
+use Rattle.plc_types.specs.declared.axis.AxisDef.{AxisDef}
 use Rattle.command_pool.specs.declared.wanted.Wanted.{Wanted}
 use Rattle.fb_outputs.specs.InstanceState.{InstanceState}
 use Rattle.motion_history.specs.declared.config.BlockDef.{BlockDef}

@@ -6,7 +6,7 @@ use Rattle.fb_outputs.specs.InstanceState.{InstanceState}
 use Rattle.group_core.specs.Tracks.{OnPath}
 use Rattle.group_core.specs.declared.group.Group.{Group}
 use Rattle.group_core.specs.declared.group.Motion.{Motion}
-use Rattle.kin_core.specs.declared.limits.Limits.{Limits}
+use Rattle.plc_types.specs.declared.limits.Limits.{Limits}
 use Rattle.motion_kernel.specs.Machine.{PlacedGroup}
 use Rattle.motion_kernel.specs.declared.segment.Before.{Before}
 use Rattle.segment_text.specs.Fields.{owner_text, progress_fields, reset_text}

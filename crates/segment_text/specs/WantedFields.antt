@@ -3,7 +3,7 @@ use Rattle.std.specs.Prelude.{ℕ, ℤ, Option, Some, None, List, [], ◌∷◌,
 use Rattle.std.specs.Fmt.{signed_decimal}
 use Rattle.command_pool.specs.declared.rates.Rates.{Rates}
 use Rattle.command_pool.specs.declared.wanted.Wanted.{Wanted}
-use Rattle.fb_outputs.specs.Names.{kind_name, mode_name}
+use Rattle.plc_types.specs.KindNames.{kind_name, mode_name}
 use Rattle.segment_text.specs.Fields.{follow_fields, owner_text, target_text}
 
 -- numbers, each in a field

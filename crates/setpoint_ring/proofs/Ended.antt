@@ -3,7 +3,7 @@
 use Rattle.std.proofs.Common.{arith, ◌≡◌, ℕ, suc, ◌+◌, ◌-◌, ◌≤◌, ◌<◌, Bool, true, false, List, [], ◌∷◌, ◌++◌, length, length-append, append-nil, Option, Some, None, IfNone, refl, sym, ap, ◌∙◌, subst}
 use Rattle.std.specs.Prelude.{if◌then◌else◌}
 use mathlib.Core.List.{IsPrefix}
-use Rattle.cia402_machine.specs.declared.drive.DriveOut.{DriveOut}
+use Rattle.plc_types.specs.declared.drive.DriveOut.{DriveOut}
 use Rattle.setpoint_ring.specs.declared.numbered.Numbered.{Numbered}
 use Rattle.setpoint_ring.specs.declared.numbered.ToDrive.{ToDrive}
 use Rattle.setpoint_ring.specs.declared.numbered.ToDrive.TheVariants.{Output, End}

@@ -1,6 +1,6 @@
 -- What goes through a ring, and in which order. This project's profile.
 use Rattle.std.specs.Prelude.{◌≡◌, ◌+◌, ◌<◌, ◌≤◌, ◌^◌, Bool, true, false, List, [], ◌∷◌, length, map}
-use Rattle.cia402_machine.specs.declared.drive.DriveOut.{DriveOut}
+use Rattle.plc_types.specs.declared.drive.DriveOut.{DriveOut}
 use Rattle.setpoint_ring.specs.declared.numbered.Numbered.{Numbered}
 use Rattle.setpoint_ring.specs.declared.numbered.ToDrive.{ToDrive}
 use Rattle.setpoint_ring.specs.declared.numbered.ToDrive.TheVariants.{Output, End}

@@ -2,8 +2,8 @@
 use Rattle.std.specs.Prelude.{◌≡◌, ℕ, List, [], Bool, true}
 use Rattle.std.specs.declared.alloc.Global.{Global}
 use denote.RawPtr.{Ptr}
-use Rattle.cia402_machine.specs.declared.drive.DriveIn.{DriveIn}
-use Rattle.cia402_machine.specs.declared.drive.DriveOut.{DriveOut}
+use Rattle.plc_types.specs.declared.drive.DriveIn.{DriveIn}
+use Rattle.plc_types.specs.declared.drive.DriveOut.{DriveOut}
 
 -- what distinguishes the items' way from any other: where they lie, and under which names in proofs
 pub record Way : Type 0 where

@@ -12,7 +12,6 @@ mod numbered;
 mod outputs;
 mod pair;
 
-pub use cia402_machine::{DriveIn, DriveOut};
 pub use drive_end::DriveEnd;
 pub use kernel_end::KernelEnd;
 pub use laws::{new_ends_are_beside, taken_items_are_the_first_sent};
@@ -20,6 +19,7 @@ pub use logs::{DriveLog, KernelLog, OutList};
 pub use numbered::{AnswersInOrder, Numbered, OutputsInOrder, ToDrive};
 pub use out_of_memory::OutOfMemory;
 pub use pair::{beside, ring};
+pub use plc_types::{DriveIn, DriveOut};
 
 /// How many outputs go through a ring at most, one for each cycle.
 pub const MOST_OUTPUTS: u32 = 200_000;

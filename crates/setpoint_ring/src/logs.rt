@@ -31,7 +31,7 @@ pub struct OutList {
 
 impl Model for OutList {
     ghost use Rattle.std.specs.Prelude.{List, length, ◌<◌, ◌^◌};
-    ghost use Rattle.cia402_machine.specs.declared.drive.DriveOut.{DriveOut};
+    ghost use Rattle.plc_types.specs.declared.drive.DriveOut.{DriveOut};
 
     ghost Value = { List DriveOut };
 

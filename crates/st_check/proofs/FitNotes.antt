@@ -5,13 +5,13 @@ use Rattle.std.specs.Prelude.{is_some, nat_lt, nat_le, max, slice_get, if◌then
 use Rattle.std.specs.List.{AllByRecursion}
 use Rattle.std.specs.Option.{option_and_then, option_map_or}
 use Rattle.std.proofs.lemmas.Bool.{lt-ltb}
-use Rattle.command_pool.specs.declared.kind.BlockKind.{BlockKind}
-use Rattle.command_pool.specs.declared.kind.BufferMode.{BufferMode}
-use Rattle.command_pool.specs.declared.kind.BufferMode.TheVariants as mode
-use Rattle.fb_outputs.specs.Inputs.{is_same}
-use Rattle.fb_outputs.specs.Names.{mode_named}
-use Rattle.fb_outputs.specs.declared.flag.Flag.{Flag}
-use Rattle.fb_outputs.specs.declared.inputs.Input.TheVariants as input
+use Rattle.plc_types.specs.declared.kind.BlockKind.{BlockKind}
+use Rattle.plc_types.specs.declared.kind.BufferMode.{BufferMode}
+use Rattle.plc_types.specs.declared.kind.BufferMode.TheVariants as mode
+use Rattle.plc_types.specs.Inputs.{is_same}
+use Rattle.plc_types.specs.KindNames.{mode_named}
+use Rattle.plc_types.specs.declared.flag.Flag.{Flag}
+use Rattle.plc_types.specs.declared.inputs.Input.TheVariants as input
 use Rattle.machine_words.proofs.Names.{axis-within}
 use Rattle.machine_words.specs.Names.{axis_at, object_at}
 use Rattle.motion_history.specs.Faults.{block_fault, task_fault}

@@ -3,11 +3,11 @@
 use Rattle.std.proofs.Common.{◌≡◌, ◌≤◌, ℕ, ℤ, zero, suc, pos, ◌+◌, ◌-◌, Bool, true, false, Option, Some, None, List, [], ◌∷◌, ◌++◌, length, length-append, refl, sym, ap, ◌∙◌, arith}
 use Rattle.std.specs.Prelude.{not, is_none, is_some, nat_le, nat_lt, if◌then◌else◌}
 use Rattle.std.specs.Option.{option_and_then, option_map_or}
-use Rattle.command_pool.specs.declared.kind.BlockKind.{BlockKind}
-use Rattle.command_pool.specs.declared.kind.BufferMode.{BufferMode}
-use Rattle.command_pool.specs.declared.kind.BufferMode.TheVariants as mode
-use Rattle.fb_outputs.specs.Names.{mode_named}
-use Rattle.fb_outputs.specs.declared.flag.Flag.{Flag}
+use Rattle.plc_types.specs.declared.kind.BlockKind.{BlockKind}
+use Rattle.plc_types.specs.declared.kind.BufferMode.{BufferMode}
+use Rattle.plc_types.specs.declared.kind.BufferMode.TheVariants as mode
+use Rattle.plc_types.specs.KindNames.{mode_named}
+use Rattle.plc_types.specs.declared.flag.Flag.{Flag}
 use Rattle.machine_words.specs.Names.{axis_at, object_at}
 use Rattle.motion_history.specs.Faults.{block_fault, task_fault}
 use Rattle.motion_history.specs.Setup.{Setup}

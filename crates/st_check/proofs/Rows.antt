@@ -3,9 +3,9 @@
 use Rattle.std.proofs.Common.{◌≡◌, ℕ, zero, suc, pos, Bool, true, false, Option, Some, None, List, [], ◌∷◌, refl}
 use Rattle.std.specs.Prelude.{if◌then◌else◌}
 use Rattle.std.specs.Option.{option_and_then, option_map_or}
-use Rattle.command_pool.specs.declared.kind.BlockKind.{BlockKind}
-use Rattle.command_pool.specs.declared.kind.BufferMode.TheVariants as mode
-use Rattle.fb_outputs.specs.declared.flag.Flag.{Flag}
+use Rattle.plc_types.specs.declared.kind.BlockKind.{BlockKind}
+use Rattle.plc_types.specs.declared.kind.BufferMode.TheVariants as mode
+use Rattle.plc_types.specs.declared.flag.Flag.{Flag}
 use Rattle.st_grammar.specs.Expressions as expr
 use Rattle.st_grammar.specs.Lines.{Line, takes, passes, refuses}
 use Rattle.st_grammar.specs.Statements as stmt

@@ -3,11 +3,11 @@
 use Rattle.std.proofs.Common.{◌≡◌, ℕ, Bool, true, false, Option, Some, None, List, refl, subst}
 use Rattle.std.specs.Prelude.{◌&&◌, nat_lt, if◌then◌else◌}
 use Rattle.std.proofs.lemmas.Bool.{and_from}
-use Rattle.command_pool.specs.Kinds.{acts_on_group}
-use Rattle.command_pool.specs.declared.kind.BlockKind.{BlockKind}
-use Rattle.fb_outputs.specs.Inputs.{is_same, takes}
-use Rattle.fb_outputs.specs.declared.inputs.Input.{Input}
-use Rattle.fb_outputs.specs.declared.inputs.Input.TheVariants as input
+use Rattle.plc_types.specs.Kinds.{acts_on_group}
+use Rattle.plc_types.specs.declared.kind.BlockKind.{BlockKind}
+use Rattle.plc_types.specs.Inputs.{is_same, takes}
+use Rattle.plc_types.specs.declared.inputs.Input.{Input}
+use Rattle.plc_types.specs.declared.inputs.Input.TheVariants as input
 use Rattle.st_check.specs.Keys.{input_named, key_by, key_of_slot, place_named, position_on_group, slot_at, slot_of, slot_on_axis, slot_on_group}
 use Rattle.st_check.specs.declared.known.Callee.{Callee}
 use Rattle.st_check.specs.declared.known.Slot.{Slot}

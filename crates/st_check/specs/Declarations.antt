@@ -1,7 +1,7 @@
 -- What tasks and declarations do. This project's profile.
 use Rattle.std.specs.Prelude.{ℕ, suc, ◌-◌, ℤ, pos, neg_ℤ, Bool, false, not, nat_le, nat_lt, min, if◌then◌else◌, is_none, is_some, Option, Some, None, List, [], ◌∷◌, ◌++◌, length}
 use Rattle.std.specs.Option.{option_map_or}
-use Rattle.command_pool.specs.declared.kind.BlockKind.{BlockKind}
+use Rattle.plc_types.specs.declared.kind.BlockKind.{BlockKind}
 use Rattle.machine_words.specs.Names.{object_at}
 use Rattle.motion_history.specs.Calls.{axes_of}
 use Rattle.motion_history.specs.Faults.{block_fault, task_fault, whole_fault}

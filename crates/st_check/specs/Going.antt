@@ -1,8 +1,8 @@
 -- Which parts fit the blocks of a machine: calls are of blocks of their task, and give what their
 -- kinds take. This project's profile.
 use Rattle.std.specs.Prelude.{ℕ, suc, ◌-◌, Bool, true, false, ◌&&◌, ◌==◌, nat_lt, Option, Some, None, length, slice_get}
-use Rattle.fb_outputs.specs.Inputs.{takes}
-use Rattle.fb_outputs.specs.declared.inputs.Input.TheVariants as input
+use Rattle.plc_types.specs.Inputs.{takes}
+use Rattle.plc_types.specs.declared.inputs.Input.TheVariants as input
 use Rattle.motion_history.specs.Calls.{axes_of}
 use Rattle.motion_history.specs.Setup.{Setup}
 use Rattle.motion_history.specs.declared.config.BlockDef.{BlockDef}

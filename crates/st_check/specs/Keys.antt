@@ -3,10 +3,10 @@
 use Rattle.std.specs.Prelude.{ℕ, ◌-◌, ◌&&◌, ◌==◌, nat_eq, nat_le, nat_lt, if◌then◌else◌, codes, Option, Some, None, List, [], ◌∷◌, length, slice_index_or, take}
 use Rattle.std.specs.List.{find, starts_with}
 use Rattle.std.specs.Str.{bytes_eq}
-use Rattle.command_pool.specs.Kinds.{acts_on_group}
-use Rattle.fb_outputs.specs.Inputs.{is_same, takes}
-use Rattle.fb_outputs.specs.declared.inputs.Input.{Input}
-use Rattle.fb_outputs.specs.declared.inputs.Input.TheVariants as input
+use Rattle.plc_types.specs.Kinds.{acts_on_group}
+use Rattle.plc_types.specs.Inputs.{is_same, takes}
+use Rattle.plc_types.specs.declared.inputs.Input.{Input}
+use Rattle.plc_types.specs.declared.inputs.Input.TheVariants as input
 use Rattle.machine_words.specs.Keys.{key_of}
 use Rattle.st_check.specs.declared.known.Callee.{Callee}
 use Rattle.st_check.specs.declared.known.Slot.{Slot}

@@ -1,10 +1,10 @@
 -- What the parts of statements do. This project's profile.
 use Rattle.std.specs.Prelude.{ℕ, suc, Bool, true, false, not, ◌||◌, nat_le, nat_lt, max, if◌then◌else◌, is_some, Option, Some, None, List}
 use Rattle.std.specs.Option.{option_map_or}
-use Rattle.fb_outputs.specs.Inputs.{is_same}
-use Rattle.fb_outputs.specs.Names.{mode_named}
-use Rattle.fb_outputs.specs.declared.inputs.Input.{Input}
-use Rattle.fb_outputs.specs.declared.inputs.Input.TheVariants as input
+use Rattle.plc_types.specs.Inputs.{is_same}
+use Rattle.plc_types.specs.KindNames.{mode_named}
+use Rattle.plc_types.specs.declared.inputs.Input.{Input}
+use Rattle.plc_types.specs.declared.inputs.Input.TheVariants as input
 use Rattle.machine_words.specs.Names.{axis_at}
 use Rattle.st_check.specs.Checked.{Checked, broken, broken_unless, lost_unless, with_part}
 use Rattle.st_check.specs.Declarations.{fits, signed}

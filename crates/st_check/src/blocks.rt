@@ -5,11 +5,10 @@ ghost use Rattle.st_check.specs.Declarations as spec;
 
 use crate::checker::Checker;
 use crate::known::{Callee, Declaration, Known, Sort};
-use axis_state::Name;
-use command_pool::BlockKind;
 use machine_words::{axes_of, object_at};
 use motion_history::{BlockDef, ConfigFault};
 use out_of_memory::OutOfMemory;
+use plc_types::{BlockKind, Name};
 
 impl Checker {
     /// What is declared is a block.

@@ -7,10 +7,9 @@ ghost use Rattle.st_check.specs.Statements as spec;
 use crate::checker::Checker;
 use crate::keys::{key_of_slot, rank_of, slot_of};
 use crate::known::{Call, Callee, Slot, Sort, ValueType};
-use axis_state::Name;
-use fb_outputs::{Input, mode_named};
 use machine_words::axis_at;
 use out_of_memory::OutOfMemory;
+use plc_types::{Input, Name, mode_named};
 use st_parts::Part;
 
 // The block of a name.

@@ -6,10 +6,10 @@ ghost use Rattle.st_check.specs.Declarations as spec;
 use crate::checker::Checker;
 use crate::known::{Declaration, Known, Sort, ValueType};
 use crate::pile::push;
-use axis_state::Name;
 use machine_words::is_whole;
 use motion_history::ConfigFault;
 use out_of_memory::OutOfMemory;
+use plc_types::Name;
 use st_parts::Part;
 use st_tree::Start;
 

@@ -8,8 +8,8 @@ use crate::checker::Checker;
 use crate::declarations::{MOST, signed};
 use crate::known::{Sort, Used, ValueType};
 use crate::pile::push;
-use axis_state::Name;
 use out_of_memory::OutOfMemory;
+use plc_types::Name;
 use st_parts::Part;
 use st_tree::{Flag, Operator};
 

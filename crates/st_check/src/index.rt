@@ -7,8 +7,8 @@ ghost use Rattle.st_check.specs.Indexes.{value_at};
 ghost use Rattle.st_check.specs.Names as spec;
 
 use crate::known::{Known, Sort};
-use axis_state::Name;
 use out_of_memory::OutOfMemory;
+use plc_types::Name;
 use std::alloc::Global;
 use std::collections::BTreeMap;
 use std::marker::Model;

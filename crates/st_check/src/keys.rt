@@ -4,7 +4,7 @@ ghost use Rattle.std.specs.Prelude.{◌≡◌};
 ghost use Rattle.st_check.specs.Keys as spec;
 
 use crate::known::{Callee, Slot};
-use fb_outputs::{Input, takes};
+use plc_types::{Input, takes};
 use st_tree::Key;
 
 /// The inputs that have keys, in the order of the keys.

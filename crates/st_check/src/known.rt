@@ -1,8 +1,6 @@
 // What is known where a token stands.
 
-use axis_state::Name;
-use command_pool::BlockKind;
-use fb_outputs::Input;
+use plc_types::{BlockKind, Input, Name};
 
 /// The types of values.
 #[derive(Clone, Copy, Debug, PartialEq, Eq)]

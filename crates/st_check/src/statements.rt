@@ -6,8 +6,8 @@ ghost use Rattle.st_check.specs.Statements as spec;
 use crate::checker::Checker;
 use crate::declarations::{MOST, signed};
 use crate::known::{Sort, Statement, ValueType};
-use axis_state::Name;
 use out_of_memory::OutOfMemory;
+use plc_types::Name;
 use st_parts::Part;
 
 /// The most statements of a text.

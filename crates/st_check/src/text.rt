@@ -10,10 +10,10 @@ ghost use Rattle.st_tokens.specs.Tokens.{tokens_of};
 use crate::checker::Checker;
 use crate::reader::Reader;
 use crate::walk::read_tokens;
-use axis_state::Name;
 use machine_words::refused_by;
 use motion_history::{Builder, TextFault};
 use out_of_memory::OutOfMemory;
+use plc_types::Name;
 use st_parts::Part;
 use std::alloc::Global;
 

@@ -1,8 +1,8 @@
 -- The code of a task's statements runs as the scan goes, and no operand is missing in it.
 -- for: next, open, compile
 use Rattle.std.proofs.Common.{◌≡◌, ℕ, ℤ, List, [], ◌∷◌, map, ap, sym, refl, subst, ◌∙◌, append-nil}
-use Rattle.fb_outputs.specs.Inputs.{inputs_off}
-use Rattle.fb_outputs.specs.declared.outputs.Outputs.{Outputs}
+use Rattle.plc_types.specs.Inputs.{inputs_off}
+use Rattle.plc_types.specs.declared.outputs.Outputs.{Outputs}
 use Rattle.st_tree.specs.declared.statement.Stmt.{Stmt}
 use Rattle.st_exec.specs.Code.{all_of, body_code, stmt_code}
 use Rattle.st_exec.specs.Machine.{run}

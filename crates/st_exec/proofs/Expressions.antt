@@ -1,7 +1,7 @@
 -- The code of an expression puts its value on the stack.
 -- for: next, open, compile and others
 use Rattle.std.proofs.Common.{◌≡◌, ℕ, ℤ, List, [], ◌∷◌, ◌++◌, map, ap, sym, refl, subst, ◌∙◌, append_assoc}
-use Rattle.fb_outputs.specs.declared.inputs.Inputs.{Inputs}
+use Rattle.plc_types.specs.declared.inputs.Inputs.{Inputs}
 use Rattle.st_tree.specs.declared.expression.Expr.{Expr}
 use Rattle.st_tree.specs.declared.expression.Term.{Term}
 use Rattle.st_tree.specs.declared.expression.Expr.TheOpen.{Expr-F, Term-F}

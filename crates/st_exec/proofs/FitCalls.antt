@@ -5,8 +5,8 @@ use Rattle.std.specs.Prelude.{◌==◌, IsTrue, slice_get}
 use Rattle.std.specs.List.{AllByRecursion, list_all}
 use Rattle.std.specs.Ordering.{int_eq}
 use Rattle.std.proofs.lemmas.Bool.{eqb-true}
-use Rattle.fb_outputs.specs.declared.inputs.Inputs.{Inputs}
-use Rattle.fb_outputs.specs.declared.outputs.Outputs.{Outputs}
+use Rattle.plc_types.specs.declared.inputs.Inputs.{Inputs}
+use Rattle.plc_types.specs.declared.outputs.Outputs.{Outputs}
 use Rattle.machine_words.specs.Fit.{AreFit}
 use Rattle.machine_words.specs.Units.{IsCycle}
 use Rattle.motion_history.specs.Setup.{Setup}

@@ -8,10 +8,10 @@ use Rattle.std.proofs.Math.Nat.{div-le_of_le-mul, le_trans, mul_comm}
 use Rattle.std.proofs.lemmas.Bool.{ltb-true}
 use Rattle.std.proofs.lemmas.Int.{ints, SFits-int_wrap, unsigned_abs-mul}
 use Rattle.std.proofs.lemmas.Nat.{mul-le}
-use Rattle.fb_outputs.specs.Inputs.{IsTaken, takes}
-use Rattle.fb_outputs.specs.declared.inputs.Input.TheVariants as input
-use Rattle.fb_outputs.specs.declared.inputs.Inputs.{Inputs}
-use Rattle.fb_outputs.specs.declared.outputs.Outputs.{Outputs}
+use Rattle.plc_types.specs.Inputs.{IsTaken, takes}
+use Rattle.plc_types.specs.declared.inputs.Input.TheVariants as input
+use Rattle.plc_types.specs.declared.inputs.Inputs.{Inputs}
+use Rattle.plc_types.specs.declared.outputs.Outputs.{Outputs}
 use Rattle.fixed_units.specs.Numbers.{with_sign}
 use Rattle.fixed_units.specs.PerCycle.{per_cycle_squared_of}
 use Rattle.fixed_units.proofs.Shortest.{unsigned_abs-with_sign}

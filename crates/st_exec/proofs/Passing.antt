@@ -1,8 +1,8 @@
 -- How a run passes instructions, and how courses are joined.
 -- for: next, open, compile and others
 use Rattle.std.proofs.Common.{◌≡◌, ℕ, suc, ◌+◌, ℤ, Bool, true, false, if◌then◌else◌, List, [], ◌∷◌, ◌++◌, length, ap, refl, ◌∙◌, arith}
-use Rattle.fb_outputs.specs.declared.inputs.Inputs.{Inputs}
-use Rattle.fb_outputs.specs.declared.outputs.Outputs.{Outputs}
+use Rattle.plc_types.specs.declared.inputs.Inputs.{Inputs}
+use Rattle.plc_types.specs.declared.outputs.Outputs.{Outputs}
 use Rattle.st_exec.specs.Code.{Code}
 use Rattle.st_exec.specs.Machine.{run}
 use Rattle.st_exec.specs.Scan.{Asked, Course, Over, Waits, Missing, Stand, asked, then_do}

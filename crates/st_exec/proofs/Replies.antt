@@ -4,8 +4,8 @@ use Rattle.std.proofs.Common.{◌≡◌, ℕ, ◌+◌, List, [], ◌∷◌, ◌+
 use Rattle.std.proofs.lemmas.Grind.{common_steps}
 use Rattle.std.proofs.lemmas.List.{length-set}
 use Rattle.std.specs.Prelude.{slice_set}
-use Rattle.fb_outputs.specs.Inputs.{inputs_off}
-use Rattle.fb_outputs.specs.declared.outputs.Outputs.{Outputs}
+use Rattle.plc_types.specs.Inputs.{inputs_off}
+use Rattle.plc_types.specs.declared.outputs.Outputs.{Outputs}
 use Rattle.st_exec.specs.Acting.{stack_of}
 use Rattle.st_exec.specs.Code.{Code}
 use Rattle.st_exec.specs.Compiled.{Compiled, course_of, program_at}

@@ -2,8 +2,8 @@
 -- for: next, open, compile and others
 use Rattle.std.proofs.Common.{◌≡◌, ℕ, ◌+◌, ℤ, Bool, true, false, if◌then◌else◌, List, [], ◌∷◌, ◌++◌, length, map, ap, sym, refl, subst, ◌∙◌, append_assoc}
 use Rattle.std.specs.Ordering.{int_eq}
-use Rattle.fb_outputs.specs.Inputs.{inputs_off}
-use Rattle.fb_outputs.specs.declared.inputs.Inputs.{Inputs}
+use Rattle.plc_types.specs.Inputs.{inputs_off}
+use Rattle.plc_types.specs.declared.inputs.Inputs.{Inputs}
 use Rattle.st_tree.specs.declared.call.Given.{Given}
 use Rattle.st_tree.specs.declared.call.Given.TheVariants.{Number, Mode, Master}
 use Rattle.st_tree.specs.declared.expression.Expr.{Expr}

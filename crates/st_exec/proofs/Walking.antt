@@ -2,8 +2,8 @@
 -- for: next, open, answered
 use Rattle.std.proofs.Common.{◌≡◌, ◌≤◌, ℕ, zero, suc, ◌+◌, ◌-◌, ℤ, List, [], ◌∷◌, Some, None, drop, length, min, slice_get, ap, sym, refl, subst, ◌∙◌, arith}
 use Rattle.std.proofs.lemmas.Grind.{common_steps}
-use Rattle.fb_outputs.specs.declared.inputs.Inputs.{Inputs}
-use Rattle.fb_outputs.specs.declared.outputs.Outputs.{Outputs}
+use Rattle.plc_types.specs.declared.inputs.Inputs.{Inputs}
+use Rattle.plc_types.specs.declared.outputs.Outputs.{Outputs}
 use Rattle.st_exec.specs.Acting.{IsDone, Performs, stack_of}
 use Rattle.st_exec.specs.Code.{Code}
 use Rattle.st_exec.specs.Machine.{Effect, Goes, Lacks, effect_of, led_on, run}

@@ -2,8 +2,8 @@
 use Rattle.std.specs.Prelude.{ℕ, ℤ, Bool, true, false, ◌&&◌, Option, Some, None, codes, position, List, [], map, slice_index_or}
 use Rattle.std.specs.List.{AllByRecursion}
 use Rattle.std.specs.Str.{bytes_eq}
-use Rattle.fb_outputs.specs.Inputs.{inputs_off}
-use Rattle.fb_outputs.specs.declared.outputs.Outputs.{Outputs}
+use Rattle.plc_types.specs.Inputs.{inputs_off}
+use Rattle.plc_types.specs.declared.outputs.Outputs.{Outputs}
 use Rattle.machine_words.specs.Units.{IsCycle}
 use Rattle.st_tree.specs.declared.program.Start.{Start}
 use Rattle.st_tree.specs.declared.program.Start.TheVariants.{Dint}

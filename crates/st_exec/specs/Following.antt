@@ -1,7 +1,7 @@
 -- A task that follows its code, and what it gives. This project's profile.
 use Rattle.std.specs.Prelude.{◌≡◌, ◌≤◌, ◌<◌, ◌+◌, ℕ, Bool, true, false, if◌then◌else◌, List, [], ◌∷◌, ◌++◌, Option, Some, None, length, replicate, slice_get, slice_set, vec_len, vec_capacity}
-use Rattle.fb_outputs.specs.Inputs.{inputs_off}
-use Rattle.fb_outputs.specs.declared.outputs.Outputs.{Outputs}
+use Rattle.plc_types.specs.Inputs.{inputs_off}
+use Rattle.plc_types.specs.declared.outputs.Outputs.{Outputs}
 use Rattle.st_exec.specs.declared.instruction.Instruction.{Instruction}
 use Rattle.st_exec.specs.declared.instruction.Instruction.TheVariants.{Ask}
 use Rattle.st_exec.specs.declared.task.StNext.{StNext}

@@ -1,9 +1,9 @@
 -- The machine that runs a task's code: one walk over the list of its instructions, with a stack.
 use Rattle.std.specs.Prelude.{ℕ, zero, suc, ℤ, if◌then◌else◌, List, [], ◌∷◌, slice_set}
 use Rattle.std.specs.Ordering.{int_eq}
-use Rattle.fb_outputs.specs.Inputs.{inputs_off}
-use Rattle.fb_outputs.specs.declared.inputs.Inputs.{Inputs}
-use Rattle.fb_outputs.specs.declared.outputs.Outputs.{Outputs}
+use Rattle.plc_types.specs.Inputs.{inputs_off}
+use Rattle.plc_types.specs.declared.inputs.Inputs.{Inputs}
+use Rattle.plc_types.specs.declared.outputs.Outputs.{Outputs}
 use Rattle.st_exec.specs.declared.instruction.Act.{Act}
 use Rattle.st_exec.specs.declared.instruction.Act.TheVariants.{Push, Load, Show, Choose, Follow, Pass, Take}
 use Rattle.st_exec.specs.declared.instruction.Use.{Use}

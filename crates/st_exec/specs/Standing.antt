@@ -1,6 +1,6 @@
 -- Where a run of a task's code stands: what is left of the code, and what the machine holds.
 use Rattle.std.specs.Prelude.{◌≡◌, ◌≤◌, ℕ, List, [], Option, Some, None, drop, length, slice_get, vec_len, vec_capacity}
-use Rattle.fb_outputs.specs.declared.outputs.Outputs.{Outputs}
+use Rattle.plc_types.specs.declared.outputs.Outputs.{Outputs}
 use Rattle.st_exec.specs.declared.instruction.Instruction.{Instruction}
 use Rattle.st_exec.specs.declared.instruction.Instruction.TheVariants.{Ask}
 use Rattle.st_exec.specs.declared.machine.Machine.{Machine}

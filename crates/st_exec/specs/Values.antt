@@ -3,12 +3,12 @@
 use Rattle.std.specs.Prelude.{ℕ, ℤ, pos, neg_ℤ, ◌+ℤ◌, ◌-ℤ◌, ◌*ℤ◌, int_lt, int_le, Bool, false, not, ◌&&◌, ◌||◌, if◌then◌else◌, List, [], ◌∷◌, slice_index_or}
 use Rattle.std.specs.Ordering.{int_eq}
 use Rattle.std.specs.Int.{int_wrap, w32}
-use Rattle.fb_outputs.specs.declared.outputs.Outputs.{Outputs}
+use Rattle.plc_types.specs.declared.outputs.Outputs.{Outputs}
 use Rattle.st_tree.specs.declared.expression.Expr.{Expr}
 use Rattle.st_tree.specs.declared.expression.Expr.TheOpen.{Expr-F, Term-F}
 use Rattle.st_tree.specs.declared.expression.Expr.TheFolds.{fold-Expr}
-use Rattle.fb_outputs.specs.Flags.{is_shown}
-use Rattle.fb_outputs.specs.declared.flag.Flag.{Flag}
+use Rattle.plc_types.specs.Flags.{is_shown}
+use Rattle.plc_types.specs.declared.flag.Flag.{Flag}
 use Rattle.st_tree.specs.declared.expression.Operator.{Operator}
 use Rattle.st_tree.specs.declared.expression.Operator.TheVariants.{Or, And, Equal, Different, Below, AtMost, Above, AtLeast, Plus, Minus, Times}
 

@@ -5,8 +5,8 @@ ghost use Rattle.st_exec.specs.Scan as spec;
 ghost use Rattle.machine_words.specs.Units.{IsCycle};
 
 use crate::listed::set_at;
-use fb_outputs::{INPUTS_OFF, Inputs};
 use fixed_units::{per_cycle, per_cycle2};
+use plc_types::{INPUTS_OFF, Inputs};
 use st_tree::Key;
 
 /// The internal units of a thousandth of a user unit.

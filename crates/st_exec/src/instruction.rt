@@ -1,6 +1,6 @@
 // The instructions of a task's code.
 
-use command_pool::BufferMode;
+use plc_types::BufferMode;
 use st_tree::{Flag, Key, Operator};
 
 /// What an instruction does with the stack, the inputs that are being made and the variables. A

@@ -1,7 +1,7 @@
 // Laws of scans: each is the contract of a function that does nothing.
 
 ghost use Rattle.std.specs.Prelude.{◌≡◌, ◌≤◌, ℕ, ℤ, Some, List, length, slice_get};
-ghost use Rattle.fb_outputs.specs.declared.outputs.Outputs.{Outputs};
+ghost use Rattle.plc_types.specs.declared.outputs.Outputs.{Outputs};
 ghost use Rattle.machine_words.specs.Units.{IsCycle};
 ghost use Rattle.motion_history.specs.Setup.{Setup};
 ghost use Rattle.st_exec.specs.Laws.{AreCallsOf, AsksInOrder};

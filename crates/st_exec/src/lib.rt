@@ -17,8 +17,8 @@ mod values;
 mod walk;
 
 pub use code::{StCode, TaskCode, compile};
-pub use fb_outputs::{Inputs, Outputs};
 pub use instruction::{Act, Instruction, Use};
 pub use laws::{scans_ask_in_order, scans_call_the_machine, scans_have_their_operands};
 pub use out_of_memory::OutOfMemory;
+pub use plc_types::{Inputs, Outputs};
 pub use task::{StNext, StTask};

@@ -8,7 +8,7 @@ use crate::given::{begun, give_number};
 use crate::instruction::{Act, Use};
 use crate::listed::set_at;
 use crate::values::{contrary_of, is_true, joined, negative_of, shown_of, value_at};
-use fb_outputs::{Inputs, Outputs};
+use plc_types::{Inputs, Outputs};
 
 /// What the acts of a task's code work on.
 #[derive(Drop)]

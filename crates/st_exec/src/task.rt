@@ -13,8 +13,8 @@ use crate::listed::set_at;
 use crate::machine::Machine;
 use crate::values::{SILENT, is_true, value_at};
 use crate::walk::walk;
-use fb_outputs::{INPUTS_OFF, Inputs, Outputs};
 use out_of_memory::OutOfMemory;
+use plc_types::{INPUTS_OFF, Inputs, Outputs};
 use std::alloc::Global;
 
 /// The blocks of which a task keeps the last reply: all that a machine may have.

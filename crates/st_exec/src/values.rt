@@ -3,7 +3,7 @@
 ghost use Rattle.std.specs.Prelude.{◌≡◌};
 ghost use Rattle.st_exec.specs.Values as spec;
 
-use fb_outputs::{Outputs, is_shown};
+use plc_types::{Outputs, is_shown};
 use st_tree::{Flag, Operator};
 
 /// A truth as a number.

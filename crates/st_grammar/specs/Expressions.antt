@@ -3,7 +3,7 @@
 -- in this project's profile.
 use Rattle.std.specs.Prelude.{true, false, List, [], ◌∷◌}
 use Rattle.std.specs.Option.{option_map_or}
-use Rattle.fb_outputs.specs.Flags.{flag_named}
+use Rattle.plc_types.specs.Flags.{flag_named}
 use Rattle.st_grammar.specs.Lines.{Line, takes, passes, refuses}
 use Rattle.st_grammar.specs.declared.item.Item.{Item}
 use Rattle.st_grammar.specs.declared.item.Item.TheVariants as item

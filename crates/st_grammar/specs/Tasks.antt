@@ -3,8 +3,8 @@
 -- 61131-3, in this project's profile.
 use Rattle.std.specs.Prelude.{true, false, [], ◌∷◌}
 use Rattle.std.specs.Option.{option_map_or}
-use Rattle.command_pool.specs.declared.kind.BlockKind.{BlockKind}
-use Rattle.fb_outputs.specs.Names.{kind_named}
+use Rattle.plc_types.specs.declared.kind.BlockKind.{BlockKind}
+use Rattle.plc_types.specs.KindNames.{kind_named}
 use Rattle.st_grammar.specs.Lines.{Line, takes, refuses}
 use Rattle.st_grammar.specs.declared.item.Item.TheVariants as item
 use Rattle.st_grammar.specs.declared.note.Note.TheVariants as note

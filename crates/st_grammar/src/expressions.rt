@@ -6,7 +6,7 @@ ghost use Rattle.st_grammar.specs.Expressions as spec;
 
 use crate::item::Item;
 use crate::note::{Note, Row};
-use fb_outputs::flag_named;
+use plc_types::flag_named;
 use st_tokens::{Sign, Token, Word};
 use st_tree::Operator;
 

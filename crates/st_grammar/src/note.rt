@@ -1,8 +1,7 @@
 // What tokens mean where they stand, and the rows of the table.
 
 use crate::item::Item;
-use axis_state::Name;
-use command_pool::BlockKind;
+use plc_types::{BlockKind, Name};
 use st_tree::{Flag, Operator};
 
 /// What a token means, or the end of a part in front of it.

@@ -6,8 +6,7 @@ ghost use Rattle.st_grammar.specs.Tasks as spec;
 
 use crate::item::Item;
 use crate::note::{Note, Row};
-use command_pool::BlockKind;
-use fb_outputs::kind_named;
+use plc_types::{BlockKind, kind_named};
 use st_tokens::{Sign, Token, Word};
 
 // A task, and others.

@@ -6,8 +6,8 @@ use Rattle.std.proofs.Common.{◌∙◌, ap, subst}
 use Rattle.bench_run.proofs.RunLaws.{made-ended}
 use Rattle.bench_run.specs.Run.{Event, Run, a_call, a_cycle, an_end, made}
 use Rattle.bench_run.specs.declared.bench.RunFault.{RunFault}
-use Rattle.fb_outputs.specs.declared.inputs.Inputs.{Inputs}
-use Rattle.fb_outputs.specs.declared.outputs.Outputs.{Outputs}
+use Rattle.plc_types.specs.declared.inputs.Inputs.{Inputs}
+use Rattle.plc_types.specs.declared.outputs.Outputs.{Outputs}
 use Rattle.motion_history.specs.Setup.{Setup}
 use Rattle.st_exec.specs.Laws.{asks_of}
 use Rattle.st_exec.specs.Scan.{Asked, Course, Over, Waits, Missing, scan_of}

@@ -1,7 +1,7 @@
 -- What was read may be run.
 use Rattle.std.specs.Prelude.{◌≡◌, ◌≤◌, ℕ, ℤ, Some, List, length, slice_get}
 use Rattle.std.proofs.Common.{arith}
-use Rattle.fb_outputs.specs.declared.outputs.Outputs.{Outputs}
+use Rattle.plc_types.specs.declared.outputs.Outputs.{Outputs}
 use Rattle.machine_words.specs.Units.{IsCycle}
 use Rattle.motion_history.specs.Setup.{IsSetup, Setup}
 use Rattle.st_exec.specs.Laws.{AreCallsOf}

@@ -8,8 +8,8 @@ use Rattle.bench_run.specs.Going.{run_at}
 use Rattle.bench_run.specs.Run.{Run, a_call, made}
 use Rattle.bench_run.specs.declared.bench.RunFault.{RunFault}
 use Rattle.drive_sim.specs.Sim.{DriveSim}
-use Rattle.fb_outputs.specs.declared.inputs.Inputs.{Inputs}
-use Rattle.fb_outputs.specs.declared.outputs.Outputs.{Outputs}
+use Rattle.plc_types.specs.declared.inputs.Inputs.{Inputs}
+use Rattle.plc_types.specs.declared.outputs.Outputs.{Outputs}
 use Rattle.motion_history.specs.Calls.{IsCall}
 use Rattle.motion_history.specs.Setup.{Setup}
 use Rattle.motion_kernel.specs.Histories.{machine_after}

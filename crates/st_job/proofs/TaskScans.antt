@@ -7,7 +7,7 @@ use Rattle.std.proofs.lemmas.List.{append-nil, append_assoc, length-append, leng
 use Rattle.bench_run.proofs.RunLaws.{made-ended}
 use Rattle.bench_run.specs.Run.{Event, Run, a_call, an_end, happened, made}
 use Rattle.bench_run.specs.declared.bench.RunFault.{RunFault}
-use Rattle.fb_outputs.specs.declared.outputs.Outputs.{Outputs}
+use Rattle.plc_types.specs.declared.outputs.Outputs.{Outputs}
 use Rattle.motion_history.specs.Entries.{Entry, call, end_of}
 use Rattle.st_exec.specs.Laws.{AsksInOrder, asks_of}
 use Rattle.st_exec.specs.Scan.{Asked, Course, HasAll, Over, Waits, Missing, Stand, scan_of}

@@ -1,7 +1,7 @@
 -- A machine with tasks in Structured Text, and what its tasks know between two scans. This
 -- project's profile.
 use Rattle.std.specs.Prelude.{ℕ, ℤ, Bool, true, List, map, replicate}
-use Rattle.fb_outputs.specs.declared.outputs.Outputs.{Outputs}
+use Rattle.plc_types.specs.declared.outputs.Outputs.{Outputs}
 use Rattle.motion_history.specs.Setup.{Setup}
 use Rattle.motion_history.specs.declared.drives.DriveDef.{DriveDef}
 use Rattle.st_exec.specs.Compiled.{start_of}

@@ -1,6 +1,6 @@
 -- Trees whose calls a machine takes. This project's profile.
 use Rattle.std.specs.Prelude.{◌≡◌, ◌≤◌, ℕ, ℤ, Some, List, length, slice_get}
-use Rattle.fb_outputs.specs.declared.outputs.Outputs.{Outputs}
+use Rattle.plc_types.specs.declared.outputs.Outputs.{Outputs}
 use Rattle.motion_history.specs.Setup.{Setup}
 use Rattle.st_exec.specs.Laws.{AreCallsOf}
 use Rattle.st_exec.specs.Scan.{scan_of}

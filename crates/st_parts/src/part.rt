@@ -1,6 +1,6 @@
 // The parts of a program.
 
-use command_pool::BufferMode;
+use plc_types::BufferMode;
 use st_tree::{Flag, Key, Operator, Start};
 
 /// A part of a program. The names of tasks and variables are distinguished from them.

@@ -1,6 +1,6 @@
 -- Which bytes stand where in a text. This project's profile.
 use Rattle.std.specs.Prelude.{ℕ, Bool, ◌||◌, nat_le}
-pub use Rattle.axis_state.specs.Names.{is_letter, is_digit, is_name_byte}
+pub use Rattle.plc_types.specs.Names.{is_letter, is_digit, is_name_byte}
 pub use Rattle.line_text.specs.Lines.{is_end}
 pub use Rattle.line_text.specs.Words.{is_blank}
 use Rattle.st_tokens.specs.declared.byte.Run.{Run}

@@ -2,8 +2,8 @@
 use Rattle.std.specs.Prelude.{ℕ, ◌+◌, ◌-◌, Bool, if◌then◌else◌, codes, nat_eq, Option, Some, None, List, [], ◌∷◌, length, take, drop}
 use Rattle.std.specs.List.{prefix_len, starts_with, take_while}
 use Rattle.std.specs.Option.{option_map_or}
-use Rattle.axis_state.specs.Names.{is_name}
-use Rattle.fb_outputs.specs.Names.{kind_named}
+use Rattle.plc_types.specs.Names.{is_name}
+use Rattle.plc_types.specs.KindNames.{kind_named}
 use Rattle.st_tokens.specs.Bytes.{is_ascii, is_digit, is_gap, is_letter, is_name_byte}
 use Rattle.st_tokens.specs.Comments.{comment_length}
 use Rattle.st_tokens.specs.Numbers.{number_of}

@@ -10,8 +10,7 @@ use crate::number::number_of;
 use crate::sign::{sign_at, sign_text};
 use crate::token::Token;
 use crate::word::word_named;
-use axis_state::{Name, is_name};
-use fb_outputs::kind_named;
+use plc_types::{Name, is_name, kind_named};
 
 /// A lexeme of a text: a token, or none at a blank, a line's end or a comment; and how many of its
 /// bytes stand after its first.

@@ -1,7 +1,6 @@
 // Tokens. IEC 61131-3, in this project's profile.
 
-use axis_state::Name;
-use command_pool::BlockKind;
+use plc_types::{BlockKind, Name};
 
 /// A token of a text.
 #[derive(Clone, Copy)]

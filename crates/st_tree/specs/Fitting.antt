@@ -1,9 +1,9 @@
 -- Programs whose calls fit the blocks of a machine. This project's profile.
 use Rattle.std.specs.Prelude.{◌≡◌, ℕ, Bool, true, false, ◌&&◌, ◌+◌, nat_lt, ◌==◌, Option, Some, None, List, [], ◌∷◌, length, slice_get, IsTrue}
 use Rattle.std.specs.List.{list_all}
-use Rattle.fb_outputs.specs.Inputs.{takes}
-use Rattle.fb_outputs.specs.declared.inputs.Input.{Input}
-use Rattle.fb_outputs.specs.declared.inputs.Input.TheVariants as input
+use Rattle.plc_types.specs.Inputs.{takes}
+use Rattle.plc_types.specs.declared.inputs.Input.{Input}
+use Rattle.plc_types.specs.declared.inputs.Input.TheVariants as input
 use Rattle.motion_history.specs.Calls.{axes_of}
 use Rattle.motion_history.specs.Setup.{Setup}
 use Rattle.motion_history.specs.declared.config.BlockDef.{BlockDef}

@@ -1,7 +1,7 @@
 // What a call gives the inputs of its block.
 
 use crate::expression::Expr;
-use command_pool::BufferMode;
+use plc_types::BufferMode;
 
 /// What a key of a call gives.
 #[derive(Drop)]

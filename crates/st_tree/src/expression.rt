@@ -1,6 +1,6 @@
 // Expressions.
 
-use fb_outputs::Flag;
+use plc_types::Flag;
 
 /// An expression: a DINT, a number of 32 bits with its sign, or a BOOL.
 #[cycle(expression)]

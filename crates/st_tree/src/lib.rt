@@ -9,10 +9,8 @@ mod expression;
 mod program;
 mod statement;
 
-pub use axis_state::Name;
 pub use call::{Given, Key};
-pub use command_pool::BufferMode;
 pub use expression::{Expr, Operator, Term};
-pub use fb_outputs::Flag;
+pub use plc_types::{BufferMode, Flag, Name};
 pub use program::{StProgram, Start, Task, Variable};
 pub use statement::{Branch, Stmt};

@@ -1,7 +1,7 @@
 // Programs and tasks.
 
 use crate::statement::Stmt;
-use axis_state::Name;
+use plc_types::Name;
 
 /// A program: the tasks of a file, 1 to 8, in the file's order.
 #[derive(Drop)]

@@ -4,14 +4,14 @@ use Rattle.std.specs.Prelude.{◌≤◌, ℤ, Bool, length}
 use Rattle.axis_core.specs.Cores as axes
 use Rattle.axis_core.specs.Refusals.{Asked}
 use Rattle.axis_core.specs.declared.look.AxisLook.{AxisLook}
-use Rattle.axis_state.specs.declared.state.AxisState.{AxisState}
+use Rattle.plc_types.specs.declared.axis_state.AxisState.{AxisState}
 use Rattle.command_pool.specs.declared.wanted.Wanted.{Wanted}
 use Rattle.group_core.specs.Cores as groups
 use Rattle.group_core.specs.GroupKept.{IsCoreKept}
 use Rattle.group_core.specs.Refusals.{limits_in}
 use Rattle.group_core.specs.declared.group.Group.{Group}
 use Rattle.group_core.specs.declared.look.GroupLook.{GroupLook}
-use Rattle.group_state.specs.declared.state.GroupState.{GroupState}
+use Rattle.plc_types.specs.declared.group.GroupState.{GroupState}
 use Rattle.state_events.specs.Axis as axis
 use Rattle.state_events.specs.Group as group
 

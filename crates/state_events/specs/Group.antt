@@ -7,10 +7,10 @@ use Rattle.command_pool.specs.declared.wanted.Wanted.{Wanted}
 use Rattle.group_state.specs.Diagram.{IsFrom, next_of}
 use Rattle.group_state.specs.declared.diagram.GroupEvent.{GroupEvent}
 use Rattle.group_state.specs.declared.diagram.GroupEvent.TheVariants as event
-use Rattle.group_state.specs.declared.state.GroupState.{GroupState}
-use Rattle.group_state.specs.declared.state.GroupState.TheVariants as state
-use Rattle.command_pool.specs.declared.kind.BlockKind.{BlockKind}
-use Rattle.command_pool.specs.declared.kind.BlockKind.TheVariants as kind
+use Rattle.plc_types.specs.declared.group.GroupState.{GroupState}
+use Rattle.plc_types.specs.declared.group.GroupState.TheVariants as state
+use Rattle.plc_types.specs.declared.kind.BlockKind.{BlockKind}
+use Rattle.plc_types.specs.declared.kind.BlockKind.TheVariants as kind
 use Rattle.group_core.specs.Calls.{asked_in, is_line_active}
 use Rattle.group_core.specs.Refusals.{refusal_of, states_in}
 use Rattle.group_core.specs.declared.reason.Reason.{Reason}

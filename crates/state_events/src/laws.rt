@@ -3,10 +3,10 @@
 ghost use Rattle.state_events.specs.Few.{AreFewAxisEvents, AreFewGroupEvents};
 ghost use Rattle.state_events.specs.Laws.{AreAxisEvents, AreGroupEvents};
 
-use axis_state::{
+use kin_core::{braking_steps_are_only_cut, standing_is_kept, taken_steps_keep};
+use plc_types::{
     counts_are_read_back, homing_keeps_counts, offsets_are_small, setpoints_have_counts,
 };
-use kin_core::{braking_steps_are_only_cut, standing_is_kept, taken_steps_keep};
 
 /// An axis changes its state by its events, one after another, each from a state of its row: by
 /// those of a command, a Power and its group's path, and of a cycle; an owner that is taken away

@@ -7,13 +7,13 @@ use Rattle.std.specs.Option.{option_to_list}
 use Rattle.std.proofs.lemmas.Grind.{common_steps, flat_map-append}
 use Rattle.std.proofs.lemmas.List.{flat_map_more, get_or_default, take_all, take_more}
 use Rattle.std.proofs.lemmas.List.Edits.{map_over_more}
-use Rattle.axis_state.specs.declared.definition.AxisRow.{AxisRow}
+use Rattle.plc_types.specs.declared.axis.AxisRow.{AxisRow}
 use Rattle.cam_switch.specs.Edges.{edge_of, edges_at, edges_to}
 use Rattle.cam_switch.specs.Laws.{WatchesGoOn}
 use Rattle.cam_switch.specs.Watches.{edge_after, watch_after, watch_at, watch_of}
 use Rattle.cam_switch.specs.declared.switch.Switch.{Switch}
 use Rattle.cam_switch.specs.declared.watch.Watch.{Watch}
-use Rattle.group_state.specs.declared.state.GroupRow.{GroupRow}
+use Rattle.plc_types.specs.declared.group.GroupRow.{GroupRow}
 use Rattle.motion_history.specs.Entries.{Entry, call, cycle, end_of}
 use Rattle.switch_text.specs.Lines.{cycles_in, edge_line, edges_text}
 use Rattle.switch_text.specs.UnderWay.{IsBehind, cycles_before}

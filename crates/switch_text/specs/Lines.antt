@@ -1,7 +1,7 @@
 -- The lines of edges. This project's profile.
 use Rattle.std.specs.Prelude.{ℕ, codes, decimal, if◌then◌else◌, List, [], ◌∷◌}
 use Rattle.std.specs.List.{concat, flat_map}
-use Rattle.axis_state.specs.declared.definition.AxisRow.{AxisRow}
+use Rattle.plc_types.specs.declared.axis.AxisRow.{AxisRow}
 use Rattle.cam_switch.specs.Edges.{edges_of}
 use Rattle.cam_switch.specs.declared.edge.Edge.{Edge}
 use Rattle.cam_switch.specs.declared.switch.Switch.{Switch}

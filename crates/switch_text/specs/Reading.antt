@@ -3,7 +3,7 @@ use Rattle.std.specs.Prelude.{◌≡◌, ℕ, Option, ◌==◌, Bool, true, fals
 use Rattle.std.specs.List.{list_any}
 use Rattle.std.specs.Option.{ok_or}
 use Rattle.std.specs.Str.{bytes_eq}
-use Rattle.axis_state.specs.Names.{is_name}
+use Rattle.plc_types.specs.Names.{is_name}
 use Rattle.cam_switch.specs.Switches.{is_switch}
 use Rattle.cam_switch.specs.declared.switch.Switch.{Switch}
 use Rattle.line_text.specs.Reading.{◌>>=◌, Meaning, reading_of}

@@ -7,10 +7,10 @@ ghost use Rattle.switch_text.specs.Places as places;
 ghost use Rattle.switch_text.specs.Reading as spec;
 
 use crate::name::{axis_at, is_used};
-use axis_state::{Name, is_name};
 use cam_switch::{MOST_SWITCHES, Switch, is_switch};
 use line_text::{LineFault, LineReader, broken_unless, number_of, required, says};
 use motion_history::Config;
+use plc_types::{Name, is_name};
 use std::marker::Model;
 
 /// The first line with words doesn't give the format and its version.

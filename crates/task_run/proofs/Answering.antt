@@ -5,12 +5,12 @@ use Rattle.std.specs.Prelude.{cond, is_some, slice_get}
 use Rattle.std.specs.List.{Contains}
 use Rattle.std.proofs.lemmas.List.Elements.{All-from_recursion}
 use Rattle.plc_program.specs.Programs.{IsProgram, IsTask}
-use Rattle.fb_outputs.specs.declared.outputs.Outputs.{Outputs}
+use Rattle.plc_types.specs.declared.outputs.Outputs.{Outputs}
 use Rattle.plc_program.specs.declared.program.Instruction.{Instruction}
 use Rattle.task_run.specs.Runs.{IsRun, is_settled, lines_of}
 use Rattle.task_run.specs.Standing.{Stands}
-use Rattle.fb_outputs.specs.declared.inputs.Inputs.{Inputs}
-use Rattle.fb_outputs.specs.declared.flag.Flag.{Flag}
+use Rattle.plc_types.specs.declared.inputs.Inputs.{Inputs}
+use Rattle.plc_types.specs.declared.flag.Flag.{Flag}
 use Rattle.plc_program.specs.declared.program.Instruction.TheVariants as lines
 use Rattle.task_run.specs.Tasks.{TaskState, after_reply, call_by, is_passed, last_call, next_in, next_of, state_after}
 use Rattle.task_run.specs.declared.run.Next.{Next}

@@ -6,9 +6,9 @@ use Rattle.std.specs.List.{AllByRecursion, Contains}
 use Rattle.std.proofs.lemmas.List.{append-nil}
 use Rattle.std.proofs.lemmas.List.Elements.{Contains-append_cases, Contains-append_left, Contains-append_right}
 use Rattle.std.proofs.lemmas.Bool.{eqb-true}
-use Rattle.fb_outputs.specs.declared.inputs.Inputs.{Inputs}
+use Rattle.plc_types.specs.declared.inputs.Inputs.{Inputs}
 use Rattle.plc_program.specs.Programs.{AreBehindTheirCalls, IsBehindItsCall, IsCounted, IsTask, is_call_of, is_called}
-use Rattle.fb_outputs.specs.declared.flag.Flag.{Flag}
+use Rattle.plc_types.specs.declared.flag.Flag.{Flag}
 use Rattle.plc_program.specs.declared.program.Instruction.{Instruction}
 use Rattle.plc_program.specs.declared.program.Instruction.TheVariants.{Call, Wait, Repeat, Again}
 use Rattle.task_run.specs.Standing.{IsInside, IsOutside, Stands, StandsBy}

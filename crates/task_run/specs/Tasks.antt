@@ -1,10 +1,10 @@
 -- The run of a task: its calls, by the replies to them. IEC 61131-3 has tasks; the program is this
 -- project's profile.
 use Rattle.std.specs.Prelude.{ℕ, ◌==◌, Bool, true, false, ◌||◌, if◌then◌else◌, Option, Some, None, List, [], ◌∷◌, ◌++◌}
-use Rattle.fb_outputs.specs.Flags.{is_shown}
-use Rattle.fb_outputs.specs.declared.flag.Flag.{Flag}
-use Rattle.fb_outputs.specs.declared.inputs.Inputs.{Inputs}
-use Rattle.fb_outputs.specs.declared.outputs.Outputs.{Outputs}
+use Rattle.plc_types.specs.Flags.{is_shown}
+use Rattle.plc_types.specs.declared.flag.Flag.{Flag}
+use Rattle.plc_types.specs.declared.inputs.Inputs.{Inputs}
+use Rattle.plc_types.specs.declared.outputs.Outputs.{Outputs}
 use Rattle.plc_program.specs.declared.program.Instruction.{Instruction}
 use Rattle.plc_program.specs.declared.program.Instruction.TheVariants as lines
 use Rattle.task_run.specs.Written.{written_out}

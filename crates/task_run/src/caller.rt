@@ -5,7 +5,7 @@ ghost use Rattle.motion_history.specs.Calls.{IsCall};
 ghost use Rattle.plc_program.specs.Programs.{IsBlockOf};
 ghost use Rattle.task_run.specs.Callers.{MakesCall};
 
-use fb_outputs::{Inputs, Outputs};
+use plc_types::{Inputs, Outputs};
 use std::sync::Wait;
 
 /// A call that was made.

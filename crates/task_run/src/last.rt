@@ -7,8 +7,8 @@ ghost use Rattle.task_run.specs.Tasks as spec;
 ghost use Rattle.task_run.specs.Runs.{until_again};
 
 use crate::place::{ProgramPosition, Repetition};
-use fb_outputs::Inputs;
 use plc_program::Instruction;
+use plc_types::Inputs;
 
 // The inputs of a call of the block, if a line is one.
 fn inputs_in(block: u16, line: &Instruction) -> Option<Inputs>

@@ -3,8 +3,8 @@
 ghost use Rattle.std.specs.Prelude.{◌≡◌};
 ghost use Rattle.task_run.specs.Tasks as spec;
 
-use fb_outputs::{Flag, Outputs, is_shown};
 use plc_program::Instruction;
+use plc_types::{Flag, Outputs, is_shown};
 
 // Whether a reply ends a wait: it shows the flag, aborted or an error.
 #[tactic(auto, unfolding(crate::specs::Tasks::ends_wait))]

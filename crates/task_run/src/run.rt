@@ -2,7 +2,7 @@
 
 ghost use Rattle.std.specs.Prelude.{◌≡◌, ◌<◌, [], ℕ, List, length};
 ghost use Rattle.std.specs.List.{Contains};
-ghost use Rattle.fb_outputs.specs.declared.inputs.Inputs.{Inputs};
+ghost use Rattle.plc_types.specs.declared.inputs.Inputs.{Inputs};
 ghost use Rattle.plc_program.specs.declared.program.Instruction.{Instruction};
 ghost use Rattle.task_run.specs.Tasks as spec;
 ghost use Rattle.task_run.specs.Tasks.{TaskState};
@@ -10,8 +10,8 @@ ghost use Rattle.task_run.specs.Tasks.{TaskState};
 use crate::last::last_call;
 use crate::outputs::is_passed;
 use crate::place::{ProgramPosition, line_at, moved, settled};
-use fb_outputs::{Inputs, Outputs};
 use plc_program::{Instruction, Program};
+use plc_types::{Inputs, Outputs};
 
 /// What a task does next.
 #[derive(Clone, Copy, Debug, PartialEq, Eq)]

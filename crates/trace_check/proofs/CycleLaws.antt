@@ -4,9 +4,9 @@ use Rattle.std.proofs.Common.{◌≡◌, ℕ, zero, suc, ◌+◌, ◌<◌, ◌�
 use Rattle.std.specs.Prelude.{slice_get}
 use Rattle.std.specs.List.{AllByRecursion}
 use Rattle.std.proofs.lemmas.List.{take-append-le, take_all}
-use Rattle.axis_state.specs.declared.definition.AxisDef.{AxisDef}
-use Rattle.axis_state.specs.declared.definition.AxisRow.{AxisRow}
-use Rattle.group_state.specs.declared.state.GroupRow.{GroupRow}
+use Rattle.plc_types.specs.declared.axis.AxisDef.{AxisDef}
+use Rattle.plc_types.specs.declared.axis.AxisRow.{AxisRow}
+use Rattle.plc_types.specs.declared.group.GroupRow.{GroupRow}
 use Rattle.motion_history.specs.Entries.{cycle}
 use Rattle.motion_history.specs.Setup.{Setup}
 use Rattle.motion_history.specs.declared.refused.TraceVersion.{TraceVersion}

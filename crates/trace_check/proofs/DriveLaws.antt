@@ -11,7 +11,7 @@ use Rattle.motion_history.specs.Setup.{Setup}
 use Rattle.trace_text.specs.Records.{drive_fields, padded}
 use Rattle.trace_text.specs.Trace.{drive_records, numbered}
 use Rattle.trace_text.specs.declared.drive_end.DriveEndRow.{DriveEndRow}
-use Rattle.cia402_machine.specs.declared.drive.DriveState.TheVariants.{NotReady}
+use Rattle.plc_types.specs.declared.drive.DriveState.TheVariants.{NotReady}
 use Rattle.std.specs.Prelude.{pos, slice_index_or}
 use Rattle.trace_check.specs.Replays.{with_taken}
 use Rattle.trace_check.specs.Stops.{StopsAt, Tells}

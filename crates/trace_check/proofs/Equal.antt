@@ -7,9 +7,9 @@ use Rattle.std.proofs.lemmas.Bool.Decides.{Decides-eqb, Decides-int_eq}
 use Rattle.std.proofs.lemmas.Bool.{and_parts}
 use denote.Enum.Bare.{same_true, sameb, true_same}
 use mathlib.Core.Bool.{beq}
-use Rattle.axis_state.specs.declared.definition.AxisRow.{AxisRow}
-use Rattle.axis_state.specs.contracts.state.AxisState as axis_state
-use Rattle.fb_outputs.specs.declared.outputs.Outputs.{Outputs}
+use Rattle.plc_types.specs.declared.axis.AxisRow.{AxisRow}
+use Rattle.plc_types.specs.contracts.axis_state.AxisState as axis_state
+use Rattle.plc_types.specs.declared.outputs.Outputs.{Outputs}
 
 pub same-outputs : (a b : Outputs) → (beq a.busy b.busy && (beq a.active b.active && (beq a.done b.done && (beq a.aborted b.aborted && (beq a.error b.error && ((a.error_id == b.error_id) && beq a.reached b.reached)))))) ≡ true → a ≡ b
 same-outputs a b h =

@@ -1,7 +1,7 @@
 -- When the row of an axis is as it is found. This project's profile.
 use Rattle.std.specs.Prelude.{◌≡◌, ℕ, ℤ, Option, Some, List, slice_get}
-use Rattle.axis_state.specs.declared.definition.AxisDef.{AxisDef}
-use Rattle.axis_state.specs.declared.definition.AxisRow.{AxisRow}
+use Rattle.plc_types.specs.declared.axis.AxisDef.{AxisDef}
+use Rattle.plc_types.specs.declared.axis.AxisRow.{AxisRow}
 use Rattle.motion_history.specs.declared.refused.TraceVersion.{TraceVersion}
 use Rattle.trace_text.specs.RowRanges.{found_place, found_row}
 

@@ -9,10 +9,9 @@ ghost use Rattle.trace_check.specs.Events.{IsEvent};
 ghost use Rattle.trace_check.specs.Replays as spec;
 ghost use Rattle.trace_check.specs.Replays.{cycle_of, with_made_from};
 
-use axis_state::AxisRow;
-use cia402_machine::{DriveIn, DriveOut};
 use motion_history::{EntryLook, MOST_AXES};
 use motion_kernel::SegmentedKernel;
+use plc_types::{AxisRow, DriveIn, DriveOut};
 
 /// An answer before it is given.
 const NO_ANSWER: DriveIn = DriveIn {

@@ -12,10 +12,8 @@ ghost use Rattle.trace_check.specs.FoundRecords.{found_entry_records};
 ghost use Rattle.trace_check.specs.Rows.{IsFoundAs, IsFoundAt};
 ghost use Rattle.trace_text.specs.TraceKept.{IsTraceKept};
 
-use axis_state::{AxisDef, AxisRow};
-use fb_outputs::{Inputs, Outputs};
-use group_state::GroupRow;
 use motion_history::{EntryLook, TraceVersion};
+use plc_types::{AxisDef, AxisRow, GroupRow, Inputs, Outputs};
 use trace_text::{Trace, are_same_inputs, reported_place};
 
 // Whether the place that a drive reports in a row is the one found, in version 2.

@@ -5,10 +5,10 @@ use Rattle.std.specs.Fmt.{signed_decimal}
 use Rattle.std.specs.List.{find, list_any, position}
 use Rattle.std.specs.Str.{bytes_eq}
 use Rattle.std.specs.Str.Parse.{signed_digits_value}
-use Rattle.axis_state.specs.declared.state.AxisState.{AxisState}
-use Rattle.cia402_machine.specs.declared.drive.DriveState.{DriveState}
-use Rattle.fb_outputs.specs.declared.outputs.Outputs.{Outputs}
-use Rattle.group_state.specs.declared.state.GroupState.{GroupState}
+use Rattle.plc_types.specs.declared.axis_state.AxisState.{AxisState}
+use Rattle.plc_types.specs.declared.drive.DriveState.{DriveState}
+use Rattle.plc_types.specs.declared.outputs.Outputs.{Outputs}
+use Rattle.plc_types.specs.declared.group.GroupState.{GroupState}
 use Rattle.line_text.specs.Numbers.{◌>>=◌, is_colon}
 use Rattle.motion_numbers.specs.declared.TheConstants.{MOST_NUMBER}
 use Rattle.trace_columns.specs.Fields.{axis_state_text, drive_state_text, flag_text, group_state_text, outputs_text}

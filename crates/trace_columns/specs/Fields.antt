@@ -1,12 +1,12 @@
 -- How the fields of a trace are spelled.
 use Rattle.std.specs.Prelude.{ℕ, ◌+◌, ◌/◌, ◌%◌, Bool, nat_lt, if◌then◌else◌, List, [], ◌∷◌, ◌++◌, codes}
-use Rattle.axis_state.specs.declared.state.AxisState.{AxisState}
-use Rattle.axis_state.specs.declared.state.AxisState.TheVariants as axis
-use Rattle.cia402_machine.specs.declared.drive.DriveState.{DriveState}
-use Rattle.cia402_machine.specs.declared.drive.DriveState.TheVariants as drive
-use Rattle.fb_outputs.specs.declared.outputs.Outputs.{Outputs}
-use Rattle.group_state.specs.declared.state.GroupState.{GroupState}
-use Rattle.group_state.specs.declared.state.GroupState.TheVariants as group
+use Rattle.plc_types.specs.declared.axis_state.AxisState.{AxisState}
+use Rattle.plc_types.specs.declared.axis_state.AxisState.TheVariants as axis
+use Rattle.plc_types.specs.declared.drive.DriveState.{DriveState}
+use Rattle.plc_types.specs.declared.drive.DriveState.TheVariants as drive
+use Rattle.plc_types.specs.declared.outputs.Outputs.{Outputs}
+use Rattle.plc_types.specs.declared.group.GroupState.{GroupState}
+use Rattle.plc_types.specs.declared.group.GroupState.TheVariants as group
 
 -- a truth value is 0 or 1. This project's profile
 unfoldable pub flag_text : Bool → List ℕ

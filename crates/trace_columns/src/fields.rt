@@ -3,10 +3,7 @@
 ghost use Rattle.std.specs.Prelude.{◌≡◌, ◌++◌, ◌<◌, IfOk, OnOk};
 ghost use Rattle.trace_columns.specs.Fields as spec;
 
-use axis_state::AxisState;
-use cia402_machine::DriveState;
-use fb_outputs::Outputs;
-use group_state::GroupState;
+use plc_types::{AxisState, DriveState, GroupState, Outputs};
 use std::alloc::{AllocError, Global};
 
 /// A truth value.

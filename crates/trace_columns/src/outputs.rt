@@ -4,7 +4,7 @@ ghost use Rattle.std.specs.Prelude.{◌≡◌, IfOk};
 ghost use Rattle.trace_columns.specs.Columns as spec;
 
 use crate::fields::outputs_text;
-use fb_outputs::Outputs;
+use plc_types::Outputs;
 use std::alloc::{AllocError, Global};
 
 // Whether a letter stands in a text.

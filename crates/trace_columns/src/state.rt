@@ -4,9 +4,7 @@ ghost use Rattle.std.specs.Prelude.{◌≡◌};
 ghost use Rattle.trace_columns.specs.Columns as spec;
 
 use crate::fields::{axis_state_text, drive_state_text, group_state_text};
-use axis_state::AxisState;
-use cia402_machine::DriveState;
-use group_state::GroupState;
+use plc_types::{AxisState, DriveState, GroupState};
 
 /// The states of an axis; those that come most often stand first.
 const AXIS_STATES: [AxisState; 8] = [

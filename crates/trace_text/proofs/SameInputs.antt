@@ -9,8 +9,8 @@ use Rattle.std.proofs.lemmas.Bool.{and_parts}
 use denote.Enum.Bare.{same_true, sameb, true_same}
 use mathlib.Core.Bool.{beq}
 use lib.Pointwise.{pointwise}
-use Rattle.command_pool.specs.contracts.kind.BufferMode as mode
-use Rattle.fb_outputs.specs.declared.inputs.Inputs.{Inputs}
+use Rattle.plc_types.specs.contracts.kind.BufferMode as mode
+use Rattle.plc_types.specs.declared.inputs.Inputs.{Inputs}
 
 pub same-inputs : (a b : Inputs) → (beq a.execute b.execute && (pointwise int_eq a.positions b.positions && (int_eq a.velocity b.velocity && (int_eq a.acceleration b.acceleration && (int_eq a.deceleration b.deceleration && (int_eq a.jerk b.jerk && (sameb mode.the_type a.mode b.mode && ((a.master == b.master) && (int_eq a.numerator b.numerator && (int_eq a.denominator b.denominator && (a.table == b.table))))))))))) ≡ true → a ≡ b
 same-inputs a b h =

@@ -1,8 +1,8 @@
 -- What is read of a trace that was written. This project's profile.
 use Rattle.std.specs.Prelude.{◌≡◌, ◌≤◌, ◌-◌, ◌^◌, ℕ, Ok, Some, List, drop, map, slice_get}
-use Rattle.axis_state.specs.declared.definition.AxisDef.{AxisDef}
-use Rattle.axis_state.specs.declared.definition.AxisRow.{AxisRow}
-use Rattle.group_state.specs.declared.state.GroupRow.{GroupRow}
+use Rattle.plc_types.specs.declared.axis.AxisDef.{AxisDef}
+use Rattle.plc_types.specs.declared.axis.AxisRow.{AxisRow}
+use Rattle.plc_types.specs.declared.group.GroupRow.{GroupRow}
 use Rattle.csv_records.specs.Records.{records_of}
 use Rattle.motion_history.specs.Entries.{Entry}
 use Rattle.motion_history.specs.Setup.{Setup}

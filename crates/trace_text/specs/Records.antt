@@ -3,20 +3,20 @@ use Rattle.std.specs.Prelude.{ℕ, ℤ, ◌-◌, Bool, if◌then◌else◌, Opti
 use Rattle.std.specs.Fmt.{signed_decimal}
 use Rattle.std.specs.List.{join_with_byte}
 use Rattle.std.specs.Option.{option_map}
-use Rattle.axis_state.specs.Counts.{place_of}
-use Rattle.axis_state.specs.declared.definition.AxisDef.{AxisDef}
-use Rattle.axis_state.specs.declared.definition.AxisRow.{AxisRow}
-use Rattle.command_pool.specs.Kinds.{acts_on_group}
-use Rattle.command_pool.specs.declared.kind.BlockKind.{BlockKind}
-use Rattle.command_pool.specs.declared.kind.BlockKind.TheVariants.{GearIn, CamIn}
+use Rattle.plc_types.specs.Counts.{place_of}
+use Rattle.plc_types.specs.declared.axis.AxisDef.{AxisDef}
+use Rattle.plc_types.specs.declared.axis.AxisRow.{AxisRow}
+use Rattle.plc_types.specs.Kinds.{acts_on_group}
+use Rattle.plc_types.specs.declared.kind.BlockKind.{BlockKind}
+use Rattle.plc_types.specs.declared.kind.BlockKind.TheVariants.{GearIn, CamIn}
 use Rattle.csv.specs.Writing.{row_text, default_writer}
-use Rattle.fb_outputs.specs.Inputs.{takes}
-use Rattle.fb_outputs.specs.Names.{kind_name, mode_name}
-use Rattle.fb_outputs.specs.declared.inputs.Input.{Input}
-use Rattle.fb_outputs.specs.declared.inputs.Input.TheVariants.{Position, Velocity, Acceleration, Deceleration, Jerk, Mode}
-use Rattle.fb_outputs.specs.declared.inputs.Inputs.{Inputs}
-use Rattle.fb_outputs.specs.declared.outputs.Outputs.{Outputs}
-use Rattle.group_state.specs.declared.state.GroupRow.{GroupRow}
+use Rattle.plc_types.specs.Inputs.{takes}
+use Rattle.plc_types.specs.KindNames.{kind_name, mode_name}
+use Rattle.plc_types.specs.declared.inputs.Input.{Input}
+use Rattle.plc_types.specs.declared.inputs.Input.TheVariants.{Position, Velocity, Acceleration, Deceleration, Jerk, Mode}
+use Rattle.plc_types.specs.declared.inputs.Inputs.{Inputs}
+use Rattle.plc_types.specs.declared.outputs.Outputs.{Outputs}
+use Rattle.plc_types.specs.declared.group.GroupRow.{GroupRow}
 use Rattle.motion_history.specs.Calls.{axes_of}
 use Rattle.motion_history.specs.Members.{members_of}
 pub use Rattle.motion_history.specs.NameTexts.{text_or_none}

@@ -1,6 +1,6 @@
 // What a drive took in a run, as its trace ends with it.
 
-use cia402_machine::DriveState;
+use plc_types::DriveState;
 
 /// What a drive took, and where it is at the end.
 #[derive(Clone, Copy, Debug, PartialEq, Eq)]

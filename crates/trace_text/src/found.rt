@@ -3,10 +3,8 @@
 ghost use Rattle.std.specs.Prelude.{◌≡◌, ◌++◌, ◌∷◌, [], IfErr, IfOk, OnOk, length};
 ghost use Rattle.std.specs.Option.{option_to_list};
 
-use axis_state::AxisRow;
-use fb_outputs::{Inputs, Outputs};
-use group_state::GroupRow;
 use motion_history::OutOfMemory;
+use plc_types::{AxisRow, GroupRow, Inputs, Outputs};
 use std::alloc::Global;
 use std::marker::Model;
 

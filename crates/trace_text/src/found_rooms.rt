@@ -8,10 +8,8 @@ ghost use Rattle.trace_text.specs.declared.found.FoundEntry.TheVariants as found
 
 use crate::found::{FoundCycle, FoundEntry};
 use crate::same::are_same_inputs;
-use axis_state::AxisRow;
-use fb_outputs::{INPUTS_OFF, Inputs, Outputs};
-use group_state::GroupRow;
 use motion_history::{EntryLook, OutOfMemory};
+use plc_types::{AxisRow, GroupRow, INPUTS_OFF, Inputs, Outputs};
 use std::alloc::Global;
 
 /// The arrays, and the inputs of the calls that keep none.

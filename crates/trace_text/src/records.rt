@@ -7,9 +7,9 @@ ghost use Rattle.trace_text.specs.writing.Between.{IsBetween};
 ghost use Rattle.trace_text.specs.Records as spec;
 ghost use Rattle.trace_text.specs.Records.{record_text};
 
-use axis_state::Name;
 use csv::Writer;
 use motion_history::{BlockDef, Config, OutOfMemory, axis_name};
+use plc_types::Name;
 use std::io::Write;
 
 /// How many fields a record has.

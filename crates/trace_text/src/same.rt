@@ -2,7 +2,7 @@
 
 ghost use Rattle.std.specs.Prelude.{◌≡◌, IsTrue};
 
-use fb_outputs::Inputs;
+use plc_types::Inputs;
 
 /// Whether inputs are others.
 pub fn are_same_inputs(inputs: &Inputs, others: &Inputs) -> bool

@@ -2,8 +2,9 @@
 -- for: move_steps_are_safe, moves_head_for_their_targets, moves_that_head_away_brake and others
 use Rattle.std.proofs.Common.{◌≡◌, ℕ, suc, ◌-◌, ◌≤◌, ◌<◌, ℤ, pos, neg_ℤ, ◌-ℤ◌, ◌+ℤ◌, ◌<ℤ◌, ◌≤ℤ◌, unsigned_abs, arith, refl, ◌∙◌, ap, inl, inr}
 use Rattle.std.proofs.lemmas.Int.{ints}
-use Rattle.kin_core.specs.declared.limits.Limits.{Limits}
-use Rattle.kin_core.specs.Admissible.{AreLimits, IsKept, IsSafe}
+use Rattle.plc_types.specs.declared.limits.Limits.{Limits}
+use Rattle.plc_types.specs.Limits.{AreLimits}
+use Rattle.kin_core.specs.Admissible.{IsKept, IsSafe}
 use Rattle.motion_numbers.specs.Run.{run_of}
 use Rattle.kin_core.specs.Toward.{toward_zero}
 use Rattle.command_pool.specs.declared.rates.Rates.{Rates}

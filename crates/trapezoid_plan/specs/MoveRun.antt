@@ -1,6 +1,6 @@
 -- The run of taken steps while a move or a halt is active.
 use Rattle.std.specs.Prelude.{◌≡◌, ℕ, ◌-◌, zero, suc, ℤ, pos, ◌+ℤ◌, ◌-ℤ◌, ◌<ℤ◌, ◌≤ℤ◌, unsigned_abs, ◌⊎◌}
-use Rattle.kin_core.specs.declared.limits.Limits.{Limits}
+use Rattle.plc_types.specs.declared.limits.Limits.{Limits}
 use Rattle.kin_core.specs.Taken.{taken_step_of}
 use Rattle.kin_core.specs.Toward.{toward_zero}
 use Rattle.motion_numbers.specs.Run.{run_of}

@@ -1,7 +1,8 @@
 // Laws of moves and halts: each is the contract of a function that does nothing.
 ghost use Rattle.std.specs.Prelude.{◌≡◌, ℕ, ◌+◌, ◌-◌, ◌/◌, ◌≤◌, ℤ, pos, ◌+ℤ◌, ◌-ℤ◌, ◌≤ℤ◌, unsigned_abs};
-ghost use Rattle.kin_core.specs.declared.limits.Limits.{Limits};
-ghost use Rattle.kin_core.specs.Admissible.{AreLimits, IsKept, IsSafe};
+ghost use Rattle.plc_types.specs.declared.limits.Limits.{Limits};
+ghost use Rattle.plc_types.specs.Limits.{AreLimits};
+ghost use Rattle.kin_core.specs.Admissible.{IsKept, IsSafe};
 ghost use Rattle.kin_core.specs.Toward.{IsTowards};
 ghost use Rattle.command_pool.specs.declared.rates.Rates.{Rates};
 ghost use Rattle.command_pool.specs.Rates.{AreRates};

@@ -4,9 +4,9 @@ use Rattle.std.specs.Ordering.{int_eq}
 use Rattle.axis_state.specs.declared.diagram.AxisEvent.{AxisEvent}
 use Rattle.axis_state.specs.declared.diagram.AxisEvent.TheVariants.{FollowActive, FollowOut}
 use Rattle.command_pool.specs.declared.ending.Finish.{Finish}
-use Rattle.command_pool.specs.declared.kind.BlockKind.{BlockKind}
-use Rattle.command_pool.specs.declared.kind.BlockKind.TheVariants as kind
-use Rattle.command_pool.specs.declared.kind.BufferMode.TheVariants.{Aborting}
+use Rattle.plc_types.specs.declared.kind.BlockKind.{BlockKind}
+use Rattle.plc_types.specs.declared.kind.BlockKind.TheVariants as kind
+use Rattle.plc_types.specs.declared.kind.BufferMode.TheVariants.{Aborting}
 use Rattle.command_pool.specs.declared.wanted.Follow.{Follow}
 use Rattle.command_pool.specs.declared.wanted.Follow.TheVariants as follow
 use Rattle.command_pool.specs.declared.wanted.Wanted.{Wanted}

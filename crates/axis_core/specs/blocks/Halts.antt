@@ -7,8 +7,8 @@ use Rattle.axis_state.specs.declared.diagram.AxisEvent.TheVariants.{DiscreteActi
 use Rattle.buffer_modes.specs.Owners.{is_released}
 use Rattle.command_pool.specs.declared.ending.Finish.{Finish}
 use Rattle.command_pool.specs.declared.ending.Finish.TheVariants as finish
-use Rattle.command_pool.specs.declared.kind.BlockKind.{BlockKind}
-use Rattle.command_pool.specs.declared.kind.BlockKind.TheVariants as kind
+use Rattle.plc_types.specs.declared.kind.BlockKind.{BlockKind}
+use Rattle.plc_types.specs.declared.kind.BlockKind.TheVariants as kind
 use Rattle.command_pool.specs.declared.wanted.Wanted.{Wanted}
 use Rattle.kin_core.specs.Toward.{toward_zero}
 use Rattle.axis_state.specs.States.{is_stopping}

@@ -1,13 +1,13 @@
 -- MC_Home, which sets the position where the axis stands (PLCopen Motion Control Part 1).
 use Rattle.std.specs.Prelude.{◌^◌, ◌-◌, Bool, ◌&&◌, not, false, int_le, ℤ, pos, neg_ℤ, ◌+ℤ◌, ◌-ℤ◌, Option, Some, List, [], ◌∷◌}
-use Rattle.axis_state.specs.Counts.{count_of}
+use Rattle.plc_types.specs.Counts.{count_of}
 use Rattle.axis_state.specs.declared.diagram.AxisEvent.{AxisEvent}
 use Rattle.axis_state.specs.declared.diagram.AxisEvent.TheVariants.{HomeAdmitted, HomeDone}
 use Rattle.command_pool.specs.declared.ending.Finish.{Finish}
 use Rattle.command_pool.specs.declared.ending.Finish.TheVariants as finish
-use Rattle.command_pool.specs.declared.kind.BlockKind.{BlockKind}
-use Rattle.command_pool.specs.declared.kind.BlockKind.TheVariants as kind
-use Rattle.kin_core.specs.declared.limits.Limits.{Limits}
+use Rattle.plc_types.specs.declared.kind.BlockKind.{BlockKind}
+use Rattle.plc_types.specs.declared.kind.BlockKind.TheVariants as kind
+use Rattle.plc_types.specs.declared.limits.Limits.{Limits}
 use Rattle.axis_core.specs.declared.axis.Axis.{Axis}
 use Rattle.axis_core.specs.declared.reason.Reason.{Reason}
 use Rattle.axis_core.specs.declared.reason.Reason.TheVariants.{NotPowered, InErrorStop, InStopping, InHoming, GroupHoldsAxis, TargetOutside, NotAtRest}

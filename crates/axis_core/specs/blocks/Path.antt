@@ -1,8 +1,8 @@
 -- The axis on its group's path (PLCopen Motion Control Part 4).
 use Rattle.std.specs.Prelude.{Bool, true, false, ◌&&◌, not, if◌then◌else◌, ℤ, Option, None, is_some}
 use Rattle.axis_state.specs.Diagram.{next_of}
-use Rattle.axis_state.specs.declared.state.AxisState.{AxisState}
-use Rattle.axis_state.specs.declared.state.AxisState.TheVariants as state
+use Rattle.plc_types.specs.declared.axis_state.AxisState.{AxisState}
+use Rattle.plc_types.specs.declared.axis_state.AxisState.TheVariants as state
 use Rattle.axis_state.specs.declared.diagram.AxisEvent.TheVariants.{GroupActive, PathRest}
 use Rattle.axis_state.specs.States.{is_synchronized}
 use Rattle.axis_core.specs.declared.axis.Axis.{Axis}

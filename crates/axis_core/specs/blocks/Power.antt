@@ -1,8 +1,8 @@
 -- MC_Power: its Enable is taken at each call (PLCopen Motion Control Part 1).
 use Rattle.std.specs.Prelude.{Bool, true, false, ◌&&◌, not, None}
 use Rattle.axis_state.specs.Diagram.{next_of}
-use Rattle.axis_state.specs.declared.state.AxisState.{AxisState}
-use Rattle.axis_state.specs.declared.state.AxisState.TheVariants as state
+use Rattle.plc_types.specs.declared.axis_state.AxisState.{AxisState}
+use Rattle.plc_types.specs.declared.axis_state.AxisState.TheVariants as state
 use Rattle.axis_state.specs.declared.diagram.AxisEvent.TheVariants.{PowerOff, DrivenFirst}
 use Rattle.axis_core.specs.declared.axis.Axis.{Axis}
 

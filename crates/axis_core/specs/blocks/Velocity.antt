@@ -4,10 +4,10 @@ use Rattle.std.specs.Ordering.{int_eq}
 use Rattle.axis_state.specs.declared.diagram.AxisEvent.{AxisEvent}
 use Rattle.axis_state.specs.declared.diagram.AxisEvent.TheVariants.{VelocityActive}
 use Rattle.command_pool.specs.declared.ending.Finish.{Finish}
-use Rattle.command_pool.specs.declared.kind.BlockKind.{BlockKind}
-use Rattle.command_pool.specs.declared.kind.BlockKind.TheVariants as kind
+use Rattle.plc_types.specs.declared.kind.BlockKind.{BlockKind}
+use Rattle.plc_types.specs.declared.kind.BlockKind.TheVariants as kind
 use Rattle.command_pool.specs.declared.wanted.Wanted.{Wanted}
-use Rattle.kin_core.specs.declared.limits.Limits.{Limits}
+use Rattle.plc_types.specs.declared.limits.Limits.{Limits}
 use Rattle.trapezoid_plan.specs.VelocityStep.{velocity_step_of}
 use Rattle.axis_core.specs.Steps.{gives_way, wish_within_limits, old_step_of}
 use Rattle.axis_core.specs.declared.axis.Axis.{Axis}

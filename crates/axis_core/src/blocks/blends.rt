@@ -16,7 +16,8 @@ use crate::blocks::moves::SecondMove;
 use crate::blocks::targets::{move_target, target_of};
 use crate::steps::{old_step, way};
 use blend_plan::{Blend, blend_step, blend_velocity, blends_apply_by_test, crosses};
-use command_pool::{BufferMode, Wanted};
+use command_pool::Wanted;
+use plc_types::BufferMode;
 
 /// The move into which the active one is blended in this cycle, if it is.
 #[tactic(auto, unfolding(crate::specs::blocks::Moves::blended_with))]

@@ -3,7 +3,7 @@
 ghost use Rattle.std.specs.Prelude.{◌≡◌, ◌≤◌, ◌-ℤ◌, false, IfOk, IsTrue};
 ghost use Rattle.std.specs.Option.{option_copied};
 ghost use Rattle.command_pool.specs.Rates.{AreRates};
-ghost use Rattle.command_pool.specs.declared.kind.BlockKind.TheVariants as kind;
+ghost use Rattle.plc_types.specs.declared.kind.BlockKind.TheVariants as kind;
 ghost use Rattle.axis_core.specs.Cycles.{progress_by_step};
 ghost use Rattle.axis_core.specs.Kept.{IsMoving, IsNear};
 ghost use Rattle.axis_core.specs.Steps.{is_safe_step, step_for_wish, taken_step_in};

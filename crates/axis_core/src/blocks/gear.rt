@@ -4,7 +4,7 @@ ghost use Rattle.std.specs.Prelude.{◌≡◌, ◌≤◌, ◌^◌, ◌-ℤ◌, u
 ghost use Rattle.std.specs.Option.{option_copied};
 ghost use Rattle.std.specs.Ordering.{int_eq};
 ghost use Rattle.follow_plan.specs.Gear.{gear_toward_of};
-ghost use Rattle.command_pool.specs.declared.kind.BlockKind.TheVariants as kind;
+ghost use Rattle.plc_types.specs.declared.kind.BlockKind.TheVariants as kind;
 ghost use Rattle.axis_core.specs.Cycles.{progress_by_step};
 ghost use Rattle.axis_core.specs.Kept.{IsCarriedGear, IsGear, IsMoving};
 ghost use Rattle.axis_core.specs.Steps.{wish_within_limits, old_step_of, step_for_wish};
@@ -18,9 +18,10 @@ use crate::look::AxisLook;
 use crate::progress::Progress;
 use crate::reason::Reason::{self, *};
 use crate::steps::{gives_way, old_step, take_guarded};
-use command_pool::{BlockKind, BufferMode, Follow, Rates, Wanted};
+use command_pool::{Follow, Rates, Wanted};
 use follow_plan::{gear_difference, gear_toward};
 use motion_numbers::{MOST_RATIO, is_outside};
+use plc_types::{BlockKind, BufferMode};
 
 /// The reasons against which a GearIn is tested, in their order.
 pub const TESTS: &[Reason] = &[

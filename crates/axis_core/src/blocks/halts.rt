@@ -13,9 +13,10 @@ use crate::look::AxisLook;
 use crate::progress::Progress;
 use crate::reason::Reason::{self, *};
 use crate::steps::{ends_where, old_step, taken};
-use axis_state::{AxisEvent, AxisState, axis_next};
-use command_pool::{BlockKind, Finish, Wanted};
+use axis_state::{AxisEvent, axis_next};
+use command_pool::{Finish, Wanted};
 use motion_numbers::MOST_STEP;
+use plc_types::{AxisState, BlockKind};
 use trapezoid_plan::halt_step;
 
 /// The reasons against which a Halt is tested, in their order.

@@ -1,15 +1,13 @@
 // MC_Home, which sets the position where the axis stands (PLCopen Motion Control Part 1).
 
 ghost use Rattle.std.specs.Prelude.{◌≡◌, ◌≤◌, ◌≤ℤ◌, ◌-ℤ◌, ◌+ℤ◌, pos, unsigned_abs};
-ghost use Rattle.axis_state.specs.Counts.{count_of};
+ghost use Rattle.plc_types.specs.Counts.{count_of};
 ghost use Rattle.axis_core.specs.blocks.Home as spec;
 ghost use Rattle.motion_numbers.specs.Ranges.{IsPlace};
 
 use crate::axis::{Axis, MOST_MOVED, MOST_SETPOINT};
 use crate::reason::Reason::{self, *};
-use axis_state::MOST_OFFSET;
-use command_pool::BlockKind;
-use kin_core::Limits;
+use plc_types::{BlockKind, Limits, MOST_OFFSET};
 
 /// The reasons against which it is tested, in their order.
 pub const TESTS: &[Reason] = &[
@@ -23,7 +21,7 @@ pub const TESTS: &[Reason] = &[
 ];
 
 // The drive's count at a place.
-#[tactic(auto, unfolding(axis_state::specs::Counts::count_of))]
+#[tactic(auto, unfolding(plc_types::specs::Counts::count_of))]
 fn count_at(place: i64, offset: i64, inc: i64) -> i64
     requires increment { pos 1 ≤ℤ inc }
     requires place { IsPlace place }

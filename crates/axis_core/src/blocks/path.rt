@@ -8,7 +8,8 @@ ghost use Rattle.axis_core.specs.blocks.Path as spec;
 use crate::axis::Axis;
 use crate::look::AxisLook;
 use crate::steps::move_to;
-use axis_state::{AxisEvent, AxisState, axis_next};
+use axis_state::{AxisEvent, axis_next};
+use plc_types::AxisState;
 
 // The state of an axis that goes on its group's path, or leaves it.
 fn on_path_from(on: bool, state: AxisState) -> AxisState

@@ -5,7 +5,8 @@ ghost use Rattle.axis_state.specs.States.{is_error_stop};
 ghost use Rattle.axis_core.specs.blocks.Power as spec;
 
 use crate::axis::Axis;
-use axis_state::{AxisEvent, AxisState, axis_next};
+use axis_state::{AxisEvent, axis_next};
+use plc_types::AxisState;
 
 /// Whether power is on in a cycle.
 pub fn is_powered(axis: &Axis) -> bool

@@ -6,9 +6,10 @@ ghost use Rattle.axis_core.specs.blocks.Reset as spec;
 
 use crate::axis::Axis;
 use crate::driving::has_fault;
-use axis_state::{AxisEvent, AxisState, DriveIn, axis_next};
+use axis_state::{AxisEvent, axis_next};
 use buffer_modes::{PendingReset, tell_reset};
 use command_pool::{Finish, Notes, Wanted};
+use plc_types::{AxisState, DriveIn};
 
 /// A Reset is pending; one that it replaces is aborted.
 pub fn await_reset(wanted: &Wanted, axis: &mut Axis, notes: &mut Notes)

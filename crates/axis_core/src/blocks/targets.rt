@@ -7,9 +7,9 @@ ghost use Rattle.axis_core.specs.Kept.{IsSmallTarget};
 ghost use Rattle.axis_core.specs.blocks.Moves as spec;
 
 use crate::axis::{Axis, MOST_TARGET};
-use axis_state::MOST_REPORTED;
-use command_pool::{BlockKind, BufferMode, Wanted};
+use command_pool::Wanted;
 use motion_numbers::MOST_NUMBER;
+use plc_types::{BlockKind, BufferMode, MOST_REPORTED};
 
 /// The target of an active move.
 pub fn target_of(wanted: &Wanted) -> i64

@@ -4,7 +4,7 @@ ghost use Rattle.std.specs.Ordering.{int_eq};
 ghost use Rattle.std.specs.Prelude.{◌≡◌, ◌≤◌, pos, neg_ℤ, IfOk};
 ghost use Rattle.std.specs.Option.{option_copied};
 ghost use Rattle.command_pool.specs.Rates.{AreRamps};
-ghost use Rattle.command_pool.specs.declared.kind.BlockKind.TheVariants as kind;
+ghost use Rattle.plc_types.specs.declared.kind.BlockKind.TheVariants as kind;
 ghost use Rattle.axis_core.specs.Cycles.{progress_by_step};
 ghost use Rattle.axis_core.specs.Kept.{IsCarriedVelocity, IsMoving};
 ghost use Rattle.axis_core.specs.Steps.{step_for_wish};
@@ -16,8 +16,8 @@ use crate::look::AxisLook;
 use crate::progress::Progress;
 use crate::reason::Reason::{self, *};
 use crate::steps::{gives_way, old_step, take_guarded};
-use command_pool::{BlockKind, Wanted};
-use kin_core::Limits;
+use command_pool::Wanted;
+use plc_types::{BlockKind, Limits};
 use trapezoid_plan::velocity_step;
 
 /// The reasons against which it is tested, in their order.

@@ -18,7 +18,7 @@ use Rattle.command_core.specs.Changes.{Change, all_changed, holds, joins, replac
 use Rattle.command_core.specs.CommandState.{CommandState}
 use Rattle.command_core.specs.Laws.{AreInOrder}
 use Rattle.command_pool.specs.Waiting.{last_of}
-use Rattle.command_pool.specs.declared.kind.BlockKind.{BlockKind}
+use Rattle.plc_types.specs.declared.kind.BlockKind.{BlockKind}
 use Rattle.command_pool.specs.declared.wanted.Wanted.{Wanted}
 use Rattle.command_changes.specs.Failing.{failing}
 use Rattle.command_changes.specs.Axis.{admitted_changes, asked_changes, command_state_of, command_changes, is_stop, joined_changes, power_changes}
@@ -38,7 +38,7 @@ use Rattle.axis_core.proofs.MayAdmit.{may-admit}
 use Rattle.command_core.specs.Changes as change
 use Rattle.command_core.specs.CommandState as command_state
 use Rattle.command_pool.specs.declared.ending.Finish.TheVariants as finish
-use Rattle.command_pool.specs.declared.kind.BlockKind.TheVariants as kind
+use Rattle.plc_types.specs.declared.kind.BlockKind.TheVariants as kind
 use Rattle.buffer_modes.specs.Fates as fates
 use Rattle.command_changes.proofs.Alike.{Called, Cycled, same_reset}
 use Rattle.command_changes.proofs.Fates.{single}

@@ -18,13 +18,13 @@ use Rattle.axis_state.specs.States.{is_error_stop}
 use Rattle.axis_state.specs.declared.diagram.AxisEvent.TheVariants.{StopReleased}
 use Rattle.buffer_modes.specs.Queue.{active_note}
 use Rattle.buffer_modes.specs.declared.reset.PendingReset.{PendingReset}
-use Rattle.cia402_machine.specs.declared.drive.DriveIn.{DriveIn}
+use Rattle.plc_types.specs.declared.drive.DriveIn.{DriveIn}
 use Rattle.command_core.specs.Changes as change
 use Rattle.command_core.specs.Changes.{Change, all_changed, ends, holds, resets, awaits, joins, replaced, with_known}
 use Rattle.command_core.specs.Laws.{AreInOrder}
 use Rattle.command_pool.specs.Waiting.{told_to}
 use Rattle.command_pool.specs.declared.ending.Finish.{Finish}
-use Rattle.command_pool.specs.declared.kind.BlockKind.{BlockKind}
+use Rattle.plc_types.specs.declared.kind.BlockKind.{BlockKind}
 use Rattle.command_pool.specs.declared.wanted.Wanted.{Wanted}
 use Rattle.motion_numbers.specs.Ranges.{is_outside}
 use Rattle.command_changes.specs.Failing.{failing}
@@ -35,7 +35,7 @@ use Rattle.axis_core.specs.Fates.{cycle_fate, ending_fate, is_blended, moved_fat
 use Rattle.buffer_modes.specs.Fates.{Fate, goes_on}
 use Rattle.command_core.specs.CommandState.{CommandState}
 use Rattle.command_pool.specs.declared.ending.Finish.TheVariants as finish
-use Rattle.command_pool.specs.declared.kind.BlockKind.TheVariants as kind
+use Rattle.plc_types.specs.declared.kind.BlockKind.TheVariants as kind
 use Rattle.buffer_modes.specs.Fates as fates
 use Rattle.command_changes.proofs.Alike.{Cycled, Goes, both_go, fails, then_goes, with_active}
 use Rattle.command_changes.proofs.Fates.{AreQuiet, By, single}

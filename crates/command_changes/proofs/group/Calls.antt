@@ -7,7 +7,7 @@ use Rattle.buffer_modes.specs.declared.reset.PendingReset.{PendingReset}
 use Rattle.command_core.specs.Changes.{Change, all_changed, holds, joins, replaced, resets, awaits, AllFit}
 use Rattle.command_core.specs.CommandState.{CommandState}
 use Rattle.command_core.specs.Laws.{AreInOrder}
-use Rattle.command_pool.specs.declared.kind.BlockKind.{BlockKind}
+use Rattle.plc_types.specs.declared.kind.BlockKind.{BlockKind}
 use Rattle.command_pool.specs.declared.wanted.Wanted.{Wanted}
 use Rattle.group_core.specs.Calls.{admitted_by, asked_in, braked_for, commanded, commanded_by, disowned, group_without, halted, line_joined, powered_off, queue_in, queued, waits_for_rest}
 use Rattle.group_core.specs.Cores.{Core, failed, line_begun}
@@ -34,7 +34,7 @@ use Rattle.group_core.proofs.NoneHolds.{NoneHolds, none-holds}
 use Rattle.command_core.specs.Changes as change
 use Rattle.command_core.specs.CommandState as command_state
 use Rattle.command_pool.specs.declared.ending.Finish.TheVariants as finish
-use Rattle.command_pool.specs.declared.kind.BlockKind.TheVariants as kind
+use Rattle.plc_types.specs.declared.kind.BlockKind.TheVariants as kind
 use Rattle.group_core.specs.Owners as owners
 use Rattle.buffer_modes.specs.Fates as fates
 use Rattle.command_changes.proofs.Alike.{Called, Cycled, fails, same_reset}

@@ -4,9 +4,9 @@ use Rattle.std.specs.Ordering.{int_eq}
 use Rattle.buffer_modes.specs.Owners.{is_released}
 use Rattle.command_pool.specs.declared.ending.Finish.{Finish}
 use Rattle.command_pool.specs.declared.ending.Finish.TheVariants as finish
-use Rattle.command_pool.specs.declared.kind.BlockKind.{BlockKind}
-use Rattle.command_pool.specs.declared.kind.BlockKind.TheVariants as kind
-use Rattle.kin_core.specs.declared.limits.Limits.{Limits}
+use Rattle.plc_types.specs.declared.kind.BlockKind.{BlockKind}
+use Rattle.plc_types.specs.declared.kind.BlockKind.TheVariants as kind
+use Rattle.plc_types.specs.declared.limits.Limits.{Limits}
 use Rattle.group_core.specs.States.{is_stopping}
 use Rattle.group_core.specs.Tracks.{OnPath, Way, beginning, is_moving}
 use Rattle.group_core.specs.declared.group.Group.{Group}

@@ -6,7 +6,8 @@ ghost use Rattle.buffer_modes.specs.Owners.{is_released};
 ghost use Rattle.group_core.specs.blocks.Halts as spec;
 
 use crate::reason::Reason::{self, *};
-use command_pool::{BlockKind, Finish};
+use command_pool::Finish;
+use plc_types::BlockKind;
 
 /// The reasons against which both are tested, in their order.
 pub const HALT_TESTS: &[Reason] = &[BadDeceleration, JerkRefused, GroupStateRefuses];

@@ -6,7 +6,8 @@ ghost use Rattle.group_core.specs.blocks.Line as spec;
 
 use crate::group::Motion;
 use crate::reason::Reason::{self, *};
-use command_pool::{BlockKind, Finish, Wanted};
+use command_pool::{Finish, Wanted};
+use plc_types::BlockKind;
 
 /// The reasons against which a line is tested, in their order.
 pub const LINE_TESTS: &[Reason] = &[

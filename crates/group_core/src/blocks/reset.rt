@@ -12,7 +12,8 @@ use crate::look::{GroupLook, states_in};
 use crate::states::{any_moved, is_error_stop};
 use buffer_modes::{PendingReset, tell_reset};
 use command_pool::{Finish, Notes, Wanted};
-use group_state::{GroupEvent, GroupState, group_next};
+use group_state::{GroupEvent, group_next};
+use plc_types::GroupState;
 
 /// A GroupReset is pending; one that it replaces is aborted.
 pub fn await_reset(wanted: &Wanted, group: &mut Group, notes: &mut Notes)

@@ -3,8 +3,8 @@
 ghost use Rattle.std.specs.Prelude.{◌≡◌, ◌↔◌, IsTrue, pos, ◌≤ℤ◌};
 ghost use Rattle.axis_core.specs.AxisKept.{IsBased, IsPlaced, IsSet};
 ghost use Rattle.axis_core.specs.Ranges.{IsBetween};
-ghost use Rattle.axis_state.specs.Counts.{HasCounts, IsCount, count_of};
-ghost use Rattle.kin_core.specs.Admissible.{AreLimits};
+ghost use Rattle.plc_types.specs.Counts.{HasCounts, IsCount, count_of};
+ghost use Rattle.plc_types.specs.Limits.{AreLimits};
 
 use crate::counts::{has_count, has_counts};
 use crate::limits::{are_limits, is_between, is_kept};

@@ -3,9 +3,9 @@
 ghost use Rattle.std.specs.Prelude.{◌≡◌, ◌↔◌, IsTrue, Some, ◌≤◌, ◌^◌, pos, ◌≤ℤ◌, ◌+ℤ◌, ◌-ℤ◌, unsigned_abs};
 ghost use Rattle.axis_core.specs.AxisKept as kept;
 ghost use Rattle.axis_core.specs.AxisKept.{IsActive, IsHomeWithin, IsReady};
-ghost use Rattle.axis_state.specs.Counts.{HasCounts};
+ghost use Rattle.plc_types.specs.Counts.{HasCounts};
 ghost use Rattle.command_pool.specs.declared.wanted.Wanted.{Wanted};
-ghost use Rattle.kin_core.specs.Admissible.{AreLimits};
+ghost use Rattle.plc_types.specs.Limits.{AreLimits};
 
 use crate::axis::numbers::{are_numbers, has_small_target, is_move_within};
 use crate::counts::has_counts;

@@ -5,7 +5,7 @@ ghost use Rattle.std.specs.Prelude.{◌≡◌, ◌↔◌, IsTrue, Some, pos, neg
 ghost use Rattle.axis_core.specs.AxisKept.{AreNumbers, AreRampsWithin, AreRatesWithin, IsGearWithin, IsMoveWithin, IsRelativeWithin, IsVelocityWithin};
 ghost use Rattle.axis_core.specs.Kept.{IsGear, IsSmallTarget};
 ghost use Rattle.axis_core.specs.Ranges.{IsBetween};
-ghost use Rattle.kin_core.specs.Admissible.{AreLimits};
+ghost use Rattle.plc_types.specs.Limits.{AreLimits};
 
 use crate::limits::{is_between, is_within};
 use axis_core::{BlockKind, Follow, Limits, Wanted};

@@ -4,7 +4,7 @@ ghost use Rattle.std.specs.Prelude.{◌≡◌, ◌↔◌, IsTrue, ◌≤◌, uns
 ghost use Rattle.axis_core.specs.AxisKept.{IsWaiting, MayQueue};
 ghost use Rattle.axis_core.specs.Kinds as kinds;
 ghost use Rattle.axis_core.specs.blocks.Moves.{position_of};
-ghost use Rattle.kin_core.specs.Admissible.{AreLimits};
+ghost use Rattle.plc_types.specs.Limits.{AreLimits};
 
 use crate::axis::numbers::{are_numbers, has_small_target};
 use axis_core::{Axis, AxisState, BlockKind, Limits, Wanted};

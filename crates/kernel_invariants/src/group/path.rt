@@ -4,7 +4,8 @@ ghost use Rattle.std.specs.Prelude.{◌≡◌, ◌↔◌, IsTrue, ℕ, ◌<◌, 
 ghost use Rattle.group_core.specs.GroupKept.{AreGroupLimits, IsPathOf};
 ghost use Rattle.group_core.specs.Seen.{on_path, way_of};
 ghost use Rattle.group_core.specs.Tracks.{OnPath, limits_on};
-ghost use Rattle.kin_core.specs.Admissible.{AreLimits, IsKept};
+ghost use Rattle.plc_types.specs.Limits.{AreLimits};
+ghost use Rattle.kin_core.specs.Admissible.{IsKept};
 ghost use Rattle.linear_path.specs.Line.{coordinate_of};
 ghost use Rattle.linear_path.specs.Path.{AreAxesLimits, AreWithin, limits_at};
 ghost use Rattle.kernel_invariants.specs.Parts.{track_of};

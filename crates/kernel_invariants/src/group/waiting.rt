@@ -1,7 +1,7 @@
 // Whether a command may wait for a group (PLCopen Motion Control Part 4, BufferMode).
 
 ghost use Rattle.std.specs.Prelude.{◌≡◌, ◌↔◌, IsTrue, ℕ, ◌<◌, ◌≤◌, pos, length};
-ghost use Rattle.command_pool.specs.declared.kind.BlockKind.TheVariants as kind;
+ghost use Rattle.plc_types.specs.declared.kind.BlockKind.TheVariants as kind;
 ghost use Rattle.group_core.specs.GroupKept.{AreTargets, IsWaiting, IsWithin};
 ghost use Rattle.group_core.specs.Refusals as refusals;
 ghost use Rattle.linear_path.specs.Line.{coordinate_of};

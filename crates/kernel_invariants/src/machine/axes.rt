@@ -5,7 +5,7 @@ ghost use Rattle.axis_core.specs.AxisKept.{AreWaiting, IsCoreKept, IsWaiting, Ma
 ghost use Rattle.axis_core.specs.Cores.{core_at};
 ghost use Rattle.command_pool.specs.Waiting.{queue_of};
 ghost use Rattle.command_pool.specs.declared.wanted.Wanted.{Wanted};
-ghost use Rattle.kin_core.specs.Admissible.{AreLimits};
+ghost use Rattle.plc_types.specs.Limits.{AreLimits};
 ghost use Rattle.motion_kernel.specs.kept.Machine.{IsAxisKept, IsGroupKept, IsPlaced, IsSized};
 ghost use Rattle.motion_kernel.specs.kept.Machine as machine;
 ghost use Rattle.motion_kernel.specs.members.Members as memberships;

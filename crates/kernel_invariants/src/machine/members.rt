@@ -3,7 +3,7 @@
 ghost use Rattle.std.specs.Prelude.{◌≡◌, ◌↔◌, IsTrue, ◌<◌, [], length, Some, is_some, true, if◌then◌else◌};
 ghost use Rattle.axis_core.specs.Cores.{Core};
 ghost use Rattle.axis_core.specs.blocks.Path as path;
-ghost use Rattle.axis_state.specs.declared.state.AxisState.TheVariants as state;
+ghost use Rattle.plc_types.specs.declared.axis_state.AxisState.TheVariants as state;
 ghost use Rattle.group_core.specs.GroupKept as kept;
 ghost use Rattle.group_core.specs.Members.{StandsOn};
 ghost use Rattle.group_core.specs.Seen.{on_path, way_of};

@@ -5,8 +5,8 @@ ghost use Rattle.motion_history.specs.Setup.{IsWithin};
 
 use super::Builder;
 use crate::config::{BlockDef, GroupDef};
-use axis_state::{AxisDef, Name};
 use cam_table::CamTable;
+use plc_types::{AxisDef, Name};
 
 impl Builder {
     /// The axes so far.

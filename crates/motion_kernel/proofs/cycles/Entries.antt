@@ -3,8 +3,8 @@
 use Rattle.std.specs.Prelude.{◌≡◌, ℕ, List, length}
 use Rattle.std.specs.List.{All}
 use Rattle.std.proofs.Common.{ap, sym, subst}
-use Rattle.axis_state.specs.Counts.{IsCount}
-use Rattle.cia402_machine.specs.declared.drive.DriveIn.{DriveIn}
+use Rattle.plc_types.specs.Counts.{IsCount}
+use Rattle.plc_types.specs.declared.drive.DriveIn.{DriveIn}
 use Rattle.motion_history.specs.Entries.{cycle}
 use Rattle.motion_history.specs.Setup.{Setup}
 use Rattle.motion_kernel.specs.cycles.Cycles.{after_cycle, cycled}

@@ -8,7 +8,7 @@ use Rattle.axis_core.specs.AxisKept as axis
 use Rattle.axis_core.specs.Cores as cores
 use Rattle.axis_core.specs.Cycles.{core_after_cycle, row_shown}
 use Rattle.axis_core.specs.declared.look.AxisLook.{AxisLook}
-use Rattle.cia402_machine.specs.declared.drive.DriveIn.{DriveIn}
+use Rattle.plc_types.specs.declared.drive.DriveIn.{DriveIn}
 use Rattle.command_pool.specs.Waiting.{queue_of}
 use Rattle.motion_history.specs.Columns.{no_row}
 use Rattle.motion_history.specs.Setup.{Setup}

@@ -4,8 +4,8 @@ use Rattle.std.specs.Prelude.{◌≡◌, refl, ℕ, zero, suc, ◌+◌, ◌<◌,
 use Rattle.std.specs.List.{AllByRecursion}
 use Rattle.std.proofs.Common.{arith, ap, sym, subst, ◌∙◌}
 use Rattle.axis_core.specs.declared.axis.Axis.{Axis}
-use Rattle.command_pool.specs.declared.kind.BlockKind.{BlockKind}
-use Rattle.command_pool.specs.declared.kind.BlockKind.TheVariants as kind
+use Rattle.plc_types.specs.declared.kind.BlockKind.{BlockKind}
+use Rattle.plc_types.specs.declared.kind.BlockKind.TheVariants as kind
 use Rattle.fb_outputs.specs.InstanceState.{InstanceState}
 use Rattle.motion_history.specs.Setup.{Setup}
 use Rattle.motion_history.specs.declared.config.BlockDef.{BlockDef}

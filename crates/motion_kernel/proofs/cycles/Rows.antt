@@ -5,8 +5,8 @@ use Rattle.std.proofs.Common.{arith, ap, sym, ◌∙◌}
 use Rattle.std.proofs.lemmas.List.{length-set, length_push, map-append, take_more, take_all}
 use Rattle.axis_core.specs.Cycles.{row_shown}
 use Rattle.axis_core.specs.declared.axis.Axis.{Axis}
-use Rattle.axis_state.specs.declared.definition.AxisRow.{AxisRow}
-use Rattle.cia402_machine.specs.declared.drive.DriveIn.{DriveIn}
+use Rattle.plc_types.specs.declared.axis.AxisRow.{AxisRow}
+use Rattle.plc_types.specs.declared.drive.DriveIn.{DriveIn}
 use Rattle.motion_history.specs.Setup.{Setup}
 use Rattle.motion_kernel.specs.looks.AxisLooks.{Surroundings, axis_look}
 use Rattle.motion_kernel.specs.looks.DriveAnswers.{answer_at, no_answer}

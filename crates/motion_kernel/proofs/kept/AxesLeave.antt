@@ -7,7 +7,7 @@ use Rattle.axis_core.specs.Cores as cores
 use Rattle.axis_state.specs.States.{is_synchronized}
 use Rattle.axis_core.specs.blocks.Path.{axis_on_path, is_on_path}
 use Rattle.axis_core.specs.declared.axis.Axis.{Axis}
-use Rattle.command_pool.specs.declared.kind.BlockKind.TheVariants as kind
+use Rattle.plc_types.specs.declared.kind.BlockKind.TheVariants as kind
 use Rattle.command_pool.specs.declared.wanted.Wanted.{Wanted}
 use Rattle.group_core.specs.Cores as group_cores
 use Rattle.group_core.specs.GroupKept as group

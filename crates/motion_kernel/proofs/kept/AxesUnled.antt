@@ -5,8 +5,8 @@ use Rattle.std.proofs.Common.{ap, sym, ◌∙◌, inl, inr}
 use Rattle.std.proofs.lemmas.Bool.{cases_Bool}
 use Rattle.axis_core.specs.AxisKept as axis
 use Rattle.axis_core.specs.Cores as cores
-use Rattle.axis_state.specs.declared.state.AxisState.TheVariants.{Standstill, SynchronizedMotion}
-use Rattle.command_pool.specs.declared.kind.BlockKind.TheVariants as kind
+use Rattle.plc_types.specs.declared.axis_state.AxisState.TheVariants.{Standstill, SynchronizedMotion}
+use Rattle.plc_types.specs.declared.kind.BlockKind.TheVariants as kind
 use Rattle.command_pool.specs.declared.wanted.Wanted.{Wanted}
 use Rattle.group_core.specs.Calls.{answer_of, commanded}
 use Rattle.group_core.specs.Cores as group_cores

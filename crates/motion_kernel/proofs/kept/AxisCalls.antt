@@ -12,17 +12,17 @@ use Rattle.axis_core.specs.Refusals.{Asked}
 use Rattle.axis_state.specs.States.{is_error_stop, is_synchronized}
 use Rattle.axis_core.specs.blocks.Path.{is_on_path}
 use Rattle.axis_core.specs.declared.axis.Axis.{Axis}
-use Rattle.axis_state.specs.declared.state.AxisState.{AxisState}
-use Rattle.axis_state.specs.declared.state.AxisState.TheVariants as state
-use Rattle.command_pool.specs.declared.kind.BlockKind.{BlockKind}
+use Rattle.plc_types.specs.declared.axis_state.AxisState.{AxisState}
+use Rattle.plc_types.specs.declared.axis_state.AxisState.TheVariants as state
+use Rattle.plc_types.specs.declared.kind.BlockKind.{BlockKind}
 use Rattle.command_pool.specs.declared.wanted.Wanted.{Wanted}
-use Rattle.fb_outputs.specs.declared.inputs.Inputs.{Inputs}
+use Rattle.plc_types.specs.declared.inputs.Inputs.{Inputs}
 use Rattle.group_core.specs.Calls.{powered_off}
 use Rattle.group_core.specs.GroupKept as group
 use Rattle.group_core.specs.GroupKept.{is_within}
 use Rattle.group_core.specs.Tracks.{OnPath}
-use Rattle.group_state.specs.declared.state.GroupState.{GroupState}
-use Rattle.group_state.specs.declared.state.GroupState.TheVariants as group_state
+use Rattle.plc_types.specs.declared.group.GroupState.{GroupState}
+use Rattle.plc_types.specs.declared.group.GroupState.TheVariants as group_state
 use Rattle.motion_history.specs.Setup.{Setup}
 use Rattle.motion_kernel.specs.calls.Asking.{wanted_of}
 use Rattle.motion_kernel.specs.calls.Calls.{after_axis_command, after_power, asked_of_axis, group_without_power, holds_axes, is_held_by_group, with_axis_core, with_group_core}

@@ -9,7 +9,7 @@ use Rattle.axis_core.specs.Cycles.{core_after_cycle}
 use Rattle.axis_core.specs.Drives.{answer_error_of}
 use Rattle.axis_core.specs.declared.axis.Axis.{Axis}
 use Rattle.axis_core.specs.declared.look.AxisLook.{AxisLook}
-use Rattle.cia402_machine.specs.declared.drive.DriveIn.{DriveIn}
+use Rattle.plc_types.specs.declared.drive.DriveIn.{DriveIn}
 use Rattle.group_core.specs.declared.look.GroupStep.{GroupStep}
 use Rattle.motion_history.specs.Setup.{Setup}
 use Rattle.motion_kernel.specs.cycles.GroupSteps.{GroupsStepped}

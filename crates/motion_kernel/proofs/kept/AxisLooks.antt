@@ -11,7 +11,7 @@ use Rattle.axis_core.specs.Kept.{IsNear}
 use Rattle.axis_core.specs.blocks.Path.{is_on_path}
 use Rattle.axis_core.specs.declared.look.AxisLook.{AxisLook}
 use Rattle.cam_table.specs.CamTable.{IsCamTable}
-use Rattle.cia402_machine.specs.declared.drive.DriveIn.{DriveIn}
+use Rattle.plc_types.specs.declared.drive.DriveIn.{DriveIn}
 use Rattle.command_pool.specs.declared.wanted.Follow.{Follow}
 use Rattle.command_pool.specs.declared.wanted.Follow.TheVariants as follow
 use Rattle.follow_plan.specs.Cam.{cam_position_of}
@@ -19,7 +19,7 @@ use Rattle.group_core.specs.Cycles.{step_of}
 use Rattle.group_core.specs.Refusals.{limits_in}
 use Rattle.group_core.specs.declared.look.GroupStep.{GroupStep}
 use Rattle.kin_core.specs.Admissible.{IsSafe}
-use Rattle.kin_core.specs.declared.limits.Limits.{Limits}
+use Rattle.plc_types.specs.declared.limits.Limits.{Limits}
 use Rattle.linear_path.specs.Line.{coordinate_of}
 use Rattle.linear_path.specs.Path.{limits_at}
 use Rattle.motion_history.specs.Setup.{Setup, IsSetup}

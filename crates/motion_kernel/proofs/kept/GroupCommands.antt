@@ -3,8 +3,8 @@
 use Rattle.std.specs.Prelude.{◌≡◌, refl, ℕ, ◌<◌, ℤ, Bool, true, false, not, ◌&&◌, Option, Some, None, Result, Ok, List, length, map, if◌then◌else◌}
 use Rattle.std.proofs.Common.{ap, subst}
 use Rattle.command_pool.specs.declared.ending.Refusal.{Refusal}
-use Rattle.command_pool.specs.declared.kind.BlockKind.{BlockKind}
-use Rattle.command_pool.specs.declared.kind.BlockKind.TheVariants as kind
+use Rattle.plc_types.specs.declared.kind.BlockKind.{BlockKind}
+use Rattle.plc_types.specs.declared.kind.BlockKind.TheVariants as kind
 use Rattle.command_pool.specs.declared.wanted.Wanted.{Wanted}
 use Rattle.group_core.specs.Calls.{admitted_by, answer_by, answer_of, asked_in, commanded, commanded_by, is_active_by, line_joined}
 use Rattle.group_core.specs.Cores as group_cores
@@ -15,9 +15,9 @@ use Rattle.group_core.specs.Refusals.{refusal_of}
 use Rattle.group_core.specs.declared.look.GroupLook.{GroupLook}
 use Rattle.group_core.specs.declared.reason.Reason.{Reason}
 use Rattle.group_state.specs.Diagram.{next_of}
-use Rattle.group_state.specs.declared.state.GroupState.{GroupState}
-use Rattle.group_state.specs.declared.state.GroupState.TheVariants.{GroupStandby}
-use Rattle.kin_core.specs.declared.limits.Limits.{Limits}
+use Rattle.plc_types.specs.declared.group.GroupState.{GroupState}
+use Rattle.plc_types.specs.declared.group.GroupState.TheVariants.{GroupStandby}
+use Rattle.plc_types.specs.declared.limits.Limits.{Limits}
 use Rattle.motion_history.specs.Setup.{Setup}
 use Rattle.motion_kernel.specs.looks.GroupLooks.{group_look}
 use Rattle.motion_kernel.specs.Machine.{Machine, PlacedGroup, group_at, group_core_at}

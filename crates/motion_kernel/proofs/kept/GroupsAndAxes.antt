@@ -9,9 +9,9 @@ use Rattle.axis_core.specs.Cycles.{core_after_cycle}
 use Rattle.axis_core.specs.Drives.{answer_error_of}
 use Rattle.axis_core.specs.blocks.Path.{is_on_path}
 use Rattle.axis_core.specs.declared.look.AxisLook.{AxisLook}
-use Rattle.axis_state.specs.Counts.{IsCount}
-use Rattle.axis_state.specs.declared.state.AxisState.TheVariants.{Standstill, SynchronizedMotion}
-use Rattle.cia402_machine.specs.declared.drive.DriveIn.{DriveIn}
+use Rattle.plc_types.specs.Counts.{IsCount}
+use Rattle.plc_types.specs.declared.axis_state.AxisState.TheVariants.{Standstill, SynchronizedMotion}
+use Rattle.plc_types.specs.declared.drive.DriveIn.{DriveIn}
 use Rattle.group_core.specs.Cores as group_cores
 use Rattle.group_core.specs.Cycles.{cycled, step_of}
 use Rattle.group_core.specs.GroupKept as group

@@ -9,8 +9,8 @@ use Rattle.axis_core.specs.Cores as cores
 use Rattle.axis_state.specs.States.{is_synchronized}
 use Rattle.axis_core.specs.blocks.Path.{axis_on_path, is_on_path, state_on_path}
 use Rattle.axis_core.specs.declared.axis.Axis.{Axis}
-use Rattle.axis_state.specs.declared.state.AxisState.{AxisState}
-use Rattle.axis_state.specs.declared.state.AxisState.TheVariants as state
+use Rattle.plc_types.specs.declared.axis_state.AxisState.{AxisState}
+use Rattle.plc_types.specs.declared.axis_state.AxisState.TheVariants as state
 use Rattle.command_pool.specs.Waiting.{queue_of}
 use Rattle.group_core.specs.Cores as group_cores
 use Rattle.group_core.specs.GroupKept as group

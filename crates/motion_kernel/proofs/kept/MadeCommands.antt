@@ -5,14 +5,14 @@ use Rattle.std.proofs.Common.{arith, ap, sym, ◌∙◌}
 use Rattle.axis_core.specs.Demands as axis
 use Rattle.axis_core.specs.Demands.{asked_target, is_axis_command}
 use Rattle.axis_core.specs.Kinds as axis_kinds
-use Rattle.command_pool.specs.Kinds.{acts_on_group}
-use Rattle.command_pool.specs.declared.kind.BlockKind.{BlockKind}
-use Rattle.command_pool.specs.declared.kind.BlockKind.TheVariants as kind
+use Rattle.plc_types.specs.Kinds.{acts_on_group}
+use Rattle.plc_types.specs.declared.kind.BlockKind.{BlockKind}
+use Rattle.plc_types.specs.declared.kind.BlockKind.TheVariants as kind
 use Rattle.command_pool.specs.declared.wanted.Wanted.{Wanted}
-use Rattle.fb_outputs.specs.Inputs.{takes}
+use Rattle.plc_types.specs.Inputs.{takes}
 use Rattle.fb_outputs.specs.Steps.{is_power}
-use Rattle.fb_outputs.specs.declared.inputs.Input.TheVariants.{Mode}
-use Rattle.fb_outputs.specs.declared.inputs.Inputs.{Inputs}
+use Rattle.plc_types.specs.declared.inputs.Input.TheVariants.{Mode}
+use Rattle.plc_types.specs.declared.inputs.Inputs.{Inputs}
 use Rattle.group_core.specs.GroupKept as group
 use Rattle.group_core.specs.Kinds as group_kinds
 use Rattle.motion_history.specs.Calls.{IsCall, axes_of, count_in}

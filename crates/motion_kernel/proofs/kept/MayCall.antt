@@ -3,13 +3,13 @@
 use Rattle.std.specs.Prelude.{◌≡◌, refl, ℕ, ◌<◌, Bool, true, false, Some, Result, Ok, Err, length, slice_get}
 use Rattle.std.proofs.Common.{arith}
 use Rattle.axis_core.specs.AxisKept as axis
-use Rattle.command_pool.specs.Kinds.{acts_on_group}
+use Rattle.plc_types.specs.Kinds.{acts_on_group}
 use Rattle.command_pool.specs.Waiting.{queue_of}
 use Rattle.command_pool.specs.declared.ending.Refusal.{Refusal}
-use Rattle.command_pool.specs.declared.kind.BlockKind.{BlockKind}
-use Rattle.command_pool.specs.declared.kind.BlockKind.TheVariants as kind
+use Rattle.plc_types.specs.declared.kind.BlockKind.{BlockKind}
+use Rattle.plc_types.specs.declared.kind.BlockKind.TheVariants as kind
 use Rattle.fb_outputs.specs.Steps.{is_power}
-use Rattle.fb_outputs.specs.declared.inputs.Inputs.{Inputs}
+use Rattle.plc_types.specs.declared.inputs.Inputs.{Inputs}
 use Rattle.motion_history.specs.Calls.{IsCall}
 use Rattle.motion_history.specs.Setup.{Setup}
 use Rattle.motion_history.specs.declared.config.BlockDef.{BlockDef}

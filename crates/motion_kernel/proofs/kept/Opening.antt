@@ -9,7 +9,7 @@ use Rattle.axis_core.specs.AxisKept.{IsAxisDef}
 use Rattle.axis_core.specs.Cores as cores
 use Rattle.axis_core.specs.Cycles.{axis_at_opening}
 use Rattle.axis_core.specs.blocks.Path.{is_on_path}
-use Rattle.axis_state.specs.declared.definition.AxisDef.{AxisDef}
+use Rattle.plc_types.specs.declared.axis.AxisDef.{AxisDef}
 use Rattle.command_pool.specs.Waiting.{queue_of}
 use Rattle.group_core.specs.Cores as group_cores
 use Rattle.group_core.specs.Cycles.{opening}

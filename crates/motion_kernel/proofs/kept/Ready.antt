@@ -8,12 +8,12 @@ use Rattle.axis_core.specs.AxisKept.{IsInState, IsSet}
 use Rattle.axis_core.specs.Cores.{Core}
 use Rattle.axis_core.specs.blocks.Power.{is_powered}
 use Rattle.axis_core.specs.declared.axis.Axis.{Axis}
-use Rattle.axis_state.specs.declared.state.AxisState.{AxisState}
-use Rattle.axis_state.specs.declared.state.AxisState.TheVariants.{Standstill, SynchronizedMotion}
+use Rattle.plc_types.specs.declared.axis_state.AxisState.{AxisState}
+use Rattle.plc_types.specs.declared.axis_state.AxisState.TheVariants.{Standstill, SynchronizedMotion}
 use Rattle.group_core.specs.GroupKept.{IsWithin, is_within}
 use Rattle.group_core.specs.Refusals.{limits_in, states_in}
 use Rattle.kin_core.specs.Admissible.{IsKept}
-use Rattle.kin_core.specs.declared.limits.Limits.{Limits}
+use Rattle.plc_types.specs.declared.limits.Limits.{Limits}
 use Rattle.linear_path.specs.Line.{coordinate_of}
 use Rattle.linear_path.specs.Path.{limits_at}
 use Rattle.motion_history.specs.Members.{IsGroup, members_of}

@@ -9,8 +9,8 @@ use Rattle.std.proofs.lemmas.List.{get_or-map, length-map}
 use Rattle.axis_core.specs.AxisKept as axis
 use Rattle.axis_core.specs.Cores as cores
 use Rattle.axis_core.specs.blocks.Power.{is_powered}
-use Rattle.axis_state.specs.declared.state.AxisState.{AxisState}
-use Rattle.axis_state.specs.declared.state.AxisState.TheVariants.{Standstill}
+use Rattle.plc_types.specs.declared.axis_state.AxisState.{AxisState}
+use Rattle.plc_types.specs.declared.axis_state.AxisState.TheVariants.{Standstill}
 use Rattle.command_pool.specs.declared.wanted.Wanted.{Wanted}
 use Rattle.group_core.specs.Refusals.{states_in}
 use Rattle.group_core.specs.States.{is_moved}

@@ -10,7 +10,7 @@ use Rattle.buffer_modes.specs.Owners.{active_without, owner_count, one_of, owner
 use Rattle.buffer_modes.specs.Resets.{reset_owner, reset_without}
 use Rattle.buffer_modes.specs.declared.reset.PendingReset.{PendingReset}
 use Rattle.command_core.specs.CommandState.{CommandState, owns}
-use Rattle.command_pool.specs.Kinds.{acts_on_group}
+use Rattle.plc_types.specs.Kinds.{acts_on_group}
 use Rattle.command_pool.specs.Waiting.{detached, queue_of, without}
 use Rattle.command_pool.specs.declared.wanted.Wanted.{Wanted}
 use Rattle.fb_outputs.specs.InstanceState.{InstanceState}

@@ -4,7 +4,7 @@ use Rattle.std.specs.Prelude.{◌≡◌, refl, ℕ, zero, suc, ◌+◌, Option, 
 use Rattle.std.proofs.Common.{arith, ap}
 use Rattle.axis_core.specs.Cycles.{axis_at_opening}
 use Rattle.axis_core.specs.Owners as axis
-use Rattle.axis_state.specs.declared.definition.AxisDef.{AxisDef}
+use Rattle.plc_types.specs.declared.axis.AxisDef.{AxisDef}
 use Rattle.buffer_modes.specs.Owners.{owner_count}
 use Rattle.command_core.specs.CommandState.{owns}
 use Rattle.command_pool.specs.declared.wanted.Wanted.{Wanted}

@@ -5,11 +5,11 @@ use Rattle.std.proofs.Common.{arith, ap, subst}
 use Rattle.axis_core.specs.Calls.{core_after_power}
 use Rattle.command_changes.specs.Axis as axis
 use Rattle.command_changes.specs.Group as group
-use Rattle.command_pool.specs.Kinds.{acts_on_group}
-use Rattle.command_pool.specs.declared.kind.BlockKind.TheVariants as kind
+use Rattle.plc_types.specs.Kinds.{acts_on_group}
+use Rattle.plc_types.specs.declared.kind.BlockKind.TheVariants as kind
 use Rattle.fb_outputs.specs.Steps as instance
 use Rattle.fb_outputs.specs.Steps.{is_power}
-use Rattle.fb_outputs.specs.declared.inputs.Inputs.{Inputs}
+use Rattle.plc_types.specs.declared.inputs.Inputs.{Inputs}
 use Rattle.group_core.specs.Calls.{powered_off}
 use Rattle.motion_history.specs.Calls.{IsCall}
 use Rattle.motion_history.specs.Setup.{Setup}

@@ -3,7 +3,7 @@
 use Rattle.std.specs.Prelude.{ℕ, zero, suc, ◌≤◌, List, length}
 use Rattle.std.proofs.Common.{arith}
 use Rattle.axis_core.specs.Cycles.{core_after_cycle}
-use Rattle.cia402_machine.specs.declared.drive.DriveIn.{DriveIn}
+use Rattle.plc_types.specs.declared.drive.DriveIn.{DriveIn}
 use Rattle.command_changes.specs.Axis as axis
 use Rattle.command_changes.specs.Group as group
 use Rattle.group_core.specs.Cycles as group_cycles

@@ -6,22 +6,22 @@ use Rattle.axis_core.specs.Demands.{asked_in}
 use Rattle.axis_core.specs.Refusals.{Asked}
 use Rattle.axis_core.specs.blocks.Path.{axis_on_path, is_on_path}
 use Rattle.axis_core.specs.declared.axis.Axis.{Axis}
-use Rattle.command_pool.specs.Kinds.{acts_on_group}
+use Rattle.plc_types.specs.Kinds.{acts_on_group}
 use Rattle.command_pool.specs.Waiting.{detached}
 use Rattle.command_pool.specs.declared.ending.Finish.TheVariants as finish
 use Rattle.command_pool.specs.declared.ending.Refusal.{Refusal}
-use Rattle.command_pool.specs.declared.kind.BlockKind.{BlockKind}
-use Rattle.command_pool.specs.declared.kind.BlockKind.TheVariants as kind
+use Rattle.plc_types.specs.declared.kind.BlockKind.{BlockKind}
+use Rattle.plc_types.specs.declared.kind.BlockKind.TheVariants as kind
 use Rattle.fb_outputs.specs.InstanceState.{InstanceState}
 use Rattle.fb_outputs.specs.Steps as instance
-use Rattle.fb_outputs.specs.declared.inputs.Inputs.{Inputs}
+use Rattle.plc_types.specs.declared.inputs.Inputs.{Inputs}
 use Rattle.fb_outputs.specs.declared.instance.Edge.{Edge}
 use Rattle.fb_outputs.specs.declared.instance.Edge.TheVariants as edge
-use Rattle.fb_outputs.specs.declared.outputs.Outputs.{Outputs}
+use Rattle.plc_types.specs.declared.outputs.Outputs.{Outputs}
 use Rattle.group_core.specs.Calls as group
 use Rattle.group_core.specs.Cores as group_cores
-use Rattle.group_state.specs.declared.state.GroupState.{GroupState}
-use Rattle.group_state.specs.declared.state.GroupState.TheVariants.{GroupDisabled}
+use Rattle.plc_types.specs.declared.group.GroupState.{GroupState}
+use Rattle.plc_types.specs.declared.group.GroupState.TheVariants.{GroupDisabled}
 use Rattle.motion_history.specs.Setup.{Setup}
 use Rattle.motion_history.specs.declared.config.BlockDef.{BlockDef}
 use Rattle.motion_kernel.specs.calls.Asking.{is_done_at_once, wanted_of}

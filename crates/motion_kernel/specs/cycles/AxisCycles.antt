@@ -2,7 +2,7 @@
 use Rattle.std.specs.Prelude.{ℕ, zero, suc, List, [], ◌∷◌, ◌++◌}
 use Rattle.axis_core.specs.Cores as axis_cores
 use Rattle.axis_core.specs.Cycles as axis
-use Rattle.axis_state.specs.declared.definition.AxisRow.{AxisRow}
+use Rattle.plc_types.specs.declared.axis.AxisRow.{AxisRow}
 use Rattle.motion_history.specs.Setup.{Setup}
 use Rattle.motion_kernel.specs.calls.Calls.{with_axis_core}
 use Rattle.motion_kernel.specs.Machine.{Machine, axis_core_at}

@@ -2,10 +2,10 @@
 -- cycle is this project's profile).
 use Rattle.std.specs.Prelude.{ℕ, List, length, map}
 use Rattle.axis_core.specs.declared.look.AxisLook.{AxisLook}
-use Rattle.axis_state.specs.declared.definition.AxisRow.{AxisRow}
-use Rattle.cia402_machine.specs.declared.drive.DriveIn.{DriveIn}
+use Rattle.plc_types.specs.declared.axis.AxisRow.{AxisRow}
+use Rattle.plc_types.specs.declared.drive.DriveIn.{DriveIn}
 use Rattle.group_core.specs.declared.look.GroupLook.{GroupLook}
-use Rattle.group_state.specs.declared.state.GroupRow.{GroupRow}
+use Rattle.plc_types.specs.declared.group.GroupRow.{GroupRow}
 use Rattle.motion_history.specs.Setup.{Setup}
 use Rattle.motion_kernel.specs.Machine.{Machine}
 use Rattle.motion_kernel.specs.cycles.AxisCycles.{axes_cycled}

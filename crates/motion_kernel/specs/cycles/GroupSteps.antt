@@ -1,7 +1,7 @@
 -- What the steps of the groups make of the machine in a cycle (PLCopen Motion Control Part 4; this
 -- project's profile).
 use Rattle.std.specs.Prelude.{ℕ, zero, suc, List, [], ◌∷◌, ◌++◌}
-use Rattle.cia402_machine.specs.declared.drive.DriveIn.{DriveIn}
+use Rattle.plc_types.specs.declared.drive.DriveIn.{DriveIn}
 use Rattle.group_core.specs.Cycles as group
 use Rattle.group_core.specs.declared.look.GroupLook.{GroupLook}
 use Rattle.group_core.specs.declared.look.GroupStep.{GroupStep}

@@ -3,13 +3,13 @@ use Rattle.std.specs.Prelude.{◌≡◌, ℕ, ◌+◌, ◌<◌, true, false, if�
 use Rattle.axis_core.specs.AxisKept.{IsCoreKept}
 use Rattle.axis_core.specs.blocks.Path.{is_on_path}
 use Rattle.axis_core.specs.Cores.{Core}
-use Rattle.axis_state.specs.declared.definition.AxisDef.{AxisDef}
-use Rattle.axis_state.specs.declared.state.AxisState.TheVariants.{Standstill, SynchronizedMotion}
+use Rattle.plc_types.specs.declared.axis.AxisDef.{AxisDef}
+use Rattle.plc_types.specs.declared.axis_state.AxisState.TheVariants.{Standstill, SynchronizedMotion}
 use Rattle.group_core.specs.GroupKept as group
 use Rattle.group_core.specs.GroupKept.{is_within}
 use Rattle.group_core.specs.Members.{StandsOn}
 use Rattle.group_core.specs.Tracks.{OnPath}
-use Rattle.kin_core.specs.declared.limits.Limits.{Limits}
+use Rattle.plc_types.specs.declared.limits.Limits.{Limits}
 use Rattle.std.specs.List.{AllByRecursion}
 use Rattle.motion_history.specs.Members.{members_of}
 use Rattle.motion_history.specs.Setup.{Setup, IsSetup}

@@ -4,19 +4,19 @@ use Rattle.axis_core.specs.AxisKept as axis
 use Rattle.axis_core.specs.Calls as axis_calls
 use Rattle.axis_core.specs.Demands as demands
 use Rattle.axis_core.specs.blocks.Path.{is_on_path}
-use Rattle.cia402_machine.specs.declared.drive.DriveIn.{DriveIn}
+use Rattle.plc_types.specs.declared.drive.DriveIn.{DriveIn}
 use Rattle.command_pool.specs.Waiting.{queue_of}
 use Rattle.command_pool.specs.declared.ending.Refusal.{Refusal}
-use Rattle.command_pool.specs.declared.kind.BlockKind.{BlockKind}
+use Rattle.plc_types.specs.declared.kind.BlockKind.{BlockKind}
 use Rattle.fb_outputs.specs.Steps.{is_power}
-use Rattle.fb_outputs.specs.declared.inputs.Inputs.{Inputs}
+use Rattle.plc_types.specs.declared.inputs.Inputs.{Inputs}
 use Rattle.group_core.specs.Calls as calls
 use Rattle.group_core.specs.GroupKept as group
 use Rattle.group_core.specs.Refusals.{limits_in}
 use Rattle.motion_history.specs.Setup.{Setup}
 use Rattle.motion_numbers.specs.declared.TheConstants.{MOST_NUMBER}
 use Rattle.motion_history.specs.declared.config.BlockDef.{BlockDef}
-use Rattle.command_pool.specs.Kinds.{acts_on_group}
+use Rattle.plc_types.specs.Kinds.{acts_on_group}
 use Rattle.motion_kernel.specs.calls.Asking.{wanted_of}
 use Rattle.motion_kernel.specs.calls.Calls.{asked_of_axis, leaves_path, with_axis_core, with_group_core, without_owner}
 use Rattle.motion_kernel.specs.looks.AxisLooks.{Surroundings, axis_look}

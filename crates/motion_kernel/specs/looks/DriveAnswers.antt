@@ -2,7 +2,7 @@
 use Rattle.std.specs.Prelude.{ℕ, nat_eq, if◌then◌else◌, pos, List, [], ◌∷◌, slice_index_or}
 use Rattle.axis_core.specs.Drives.{answer_error_of}
 use Rattle.axis_core.specs.declared.axis.Axis.{Axis}
-use Rattle.cia402_machine.specs.declared.drive.DriveIn.{DriveIn}
+use Rattle.plc_types.specs.declared.drive.DriveIn.{DriveIn}
 use Rattle.motion_kernel.specs.Machine.{axis_among}
 
 -- an answer that is nowhere stands for one of a drive that is not ready

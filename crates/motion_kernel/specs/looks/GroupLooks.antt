@@ -1,7 +1,7 @@
 -- What a call and a cycle look at of the axes around an axis or a group.
 use Rattle.std.specs.Prelude.{ℕ, zero, suc, Bool, pos, List, length, replicate, slice_set}
 use Rattle.axis_core.specs.declared.axis.Axis.{Axis}
-use Rattle.axis_state.specs.declared.state.AxisState.TheVariants.{Disabled}
+use Rattle.plc_types.specs.declared.axis_state.AxisState.TheVariants.{Disabled}
 use Rattle.group_core.specs.declared.look.GroupLook.{GroupLook}
 use Rattle.motion_history.specs.Setup.{Setup}
 use Rattle.motion_kernel.specs.Machine.{Machine, axis_among, group_at}

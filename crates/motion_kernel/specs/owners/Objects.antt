@@ -1,6 +1,6 @@
 -- Axes and groups by one word, and on which of them a block has its commands.
 use Rattle.std.specs.Prelude.{ℕ, ◌<◌, Bool, false, not, ◌&&◌, nat_eq, if◌then◌else◌, Option, Some, None, length}
-use Rattle.command_pool.specs.Kinds.{acts_on_group}
+use Rattle.plc_types.specs.Kinds.{acts_on_group}
 use Rattle.fb_outputs.specs.Steps.{is_power}
 use Rattle.motion_history.specs.declared.config.BlockDef.{BlockDef}
 use Rattle.motion_kernel.specs.Machine.{Machine}

@@ -9,7 +9,7 @@ use Rattle.buffer_modes.specs.Fates.{Fate, IsFate}
 use Rattle.axis_core.specs.Fates.{cycle_fate}
 use Rattle.axis_core.specs.blocks.Moves.{blended_with, is_move, target_of}
 use Rattle.axis_core.specs.declared.axis.Axis.{Axis}
-use Rattle.cia402_machine.specs.declared.drive.DriveIn.{DriveIn}
+use Rattle.plc_types.specs.declared.drive.DriveIn.{DriveIn}
 use Rattle.command_pool.specs.Waiting.{queue_of}
 use Rattle.command_pool.specs.declared.ending.Finish.{Finish}
 use Rattle.command_pool.specs.declared.ending.Finish.TheVariants as finish

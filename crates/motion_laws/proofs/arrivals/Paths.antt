@@ -3,12 +3,12 @@
 use Rattle.std.specs.Prelude.{◌≡◌, refl, ℕ, zero, suc, ◌+◌, ◌<◌, ◌≤◌, ℤ, Option, Some, None, List, [], ◌∷◌, length, is_some, slice_get}
 use Rattle.std.proofs.Common.{arith, sym, subst, ◌∙◌, inl, inr}
 use Rattle.std.proofs.lemmas.Bool.{cases_eq}
-use Rattle.cia402_machine.specs.declared.drive.DriveIn.{DriveIn}
+use Rattle.plc_types.specs.declared.drive.DriveIn.{DriveIn}
 use Rattle.command_changes.specs.Fates.{AreGroupFates}
 use Rattle.buffer_modes.specs.Owners.{IsSame}
 use Rattle.command_pool.specs.declared.ending.Finish.{Finish}
 use Rattle.command_pool.specs.declared.wanted.Wanted.{Wanted}
-use Rattle.fb_outputs.specs.declared.inputs.Inputs.{Inputs}
+use Rattle.plc_types.specs.declared.inputs.Inputs.{Inputs}
 use Rattle.group_core.specs.Calls.{commanded, disowned, group_without, powered_off}
 use Rattle.group_core.specs.Cores.{Core}
 use Rattle.group_core.specs.Courses.{Carried, Course, GoesOn, IsUnderWay, along, bound_of, course_of, slowing}
@@ -20,7 +20,7 @@ use Rattle.group_core.specs.GroupKept.{IsCoreKept, IsLook, IsMade}
 use Rattle.group_core.specs.Refusals.{limits_in}
 use Rattle.group_core.specs.Tracks.{OnPath}
 use Rattle.group_core.specs.declared.look.GroupLook.{GroupLook}
-use Rattle.kin_core.specs.declared.limits.Limits.{Limits}
+use Rattle.plc_types.specs.declared.limits.Limits.{Limits}
 use Rattle.motion_history.specs.Calls.{IsCall}
 use Rattle.motion_history.specs.Entries.{Entry, call, cycle, cycle_count, cycles_of, end_of}
 use Rattle.motion_history.specs.Setup.{Setup}

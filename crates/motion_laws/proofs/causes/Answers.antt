@@ -11,9 +11,9 @@ use Rattle.axis_core.specs.blocks.Power.{is_powered}
 use Rattle.axis_core.specs.declared.axis.Axis.{Axis}
 use Rattle.axis_state.specs.States.{is_error_stop}
 use Rattle.cia402_machine.specs.Statusword.{state_of_word}
-use Rattle.cia402_machine.specs.declared.drive.DriveIn.{DriveIn}
-use Rattle.cia402_machine.specs.declared.drive.DriveState.{DriveState}
-use Rattle.cia402_machine.specs.declared.drive.DriveState.TheVariants as drive
+use Rattle.plc_types.specs.declared.drive.DriveIn.{DriveIn}
+use Rattle.plc_types.specs.declared.drive.DriveState.{DriveState}
+use Rattle.plc_types.specs.declared.drive.DriveState.TheVariants as drive
 use Rattle.motion_numbers.specs.Ranges.{is_outside}
 use Rattle.motion_laws.specs.causes.Axis.{AnswerBrings, ComesOutside, LosesDrive, ReportsFault, TakesSetpoints}
 use Rattle.motion_laws.specs.causes.Axis as by

@@ -6,12 +6,13 @@ use Rattle.axis_core.specs.AxisKept as kept
 use Rattle.axis_core.specs.Drives.{answer_error_of}
 use Rattle.axis_core.specs.declared.axis.Axis.{Axis}
 use Rattle.axis_state.specs.States as axis
-use Rattle.cia402_machine.specs.declared.drive.DriveIn.{DriveIn}
+use Rattle.plc_types.specs.declared.drive.DriveIn.{DriveIn}
 use Rattle.group_core.specs.States.{is_error_stop}
 use Rattle.group_core.specs.declared.look.GroupLook.{GroupLook}
-use Rattle.kin_core.specs.Admissible.{AreLimits, IsKept, IsSafe}
+use Rattle.plc_types.specs.Limits.{AreLimits}
+use Rattle.kin_core.specs.Admissible.{IsKept, IsSafe}
 use Rattle.kin_core.specs.Taken.{taken_step_of}
-use Rattle.kin_core.specs.declared.limits.Limits.{Limits}
+use Rattle.plc_types.specs.declared.limits.Limits.{Limits}
 use Rattle.motion_history.specs.Setup.{Setup}
 use Rattle.motion_kernel.proofs.cycles.OneAxis.{goes_through}
 use Rattle.motion_kernel.proofs.kept.GroupSteps.{have_stepped}

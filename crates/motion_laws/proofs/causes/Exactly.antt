@@ -7,7 +7,7 @@ use Rattle.axis_core.specs.Drives.{actual_of, answer_error_of, has_fault, is_ope
 use Rattle.axis_core.specs.blocks.Power.{is_powered}
 use Rattle.axis_core.specs.declared.axis.Axis.{Axis}
 use Rattle.axis_state.specs.States.{is_error_stop}
-use Rattle.cia402_machine.specs.declared.drive.DriveIn.{DriveIn}
+use Rattle.plc_types.specs.declared.drive.DriveIn.{DriveIn}
 use Rattle.motion_numbers.specs.Ranges.{is_outside}
 use Rattle.motion_laws.proofs.causes.Answers.{faults, operational, takes}
 use Rattle.motion_laws.proofs.error_ids.Tests.{outside}

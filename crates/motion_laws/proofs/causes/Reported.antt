@@ -7,9 +7,9 @@ use Rattle.axis_core.specs.AxisKept as kept
 use Rattle.axis_core.specs.Cycles.{core_after_cycle}
 use Rattle.axis_core.specs.declared.axis.Axis.{Axis}
 use Rattle.axis_state.specs.States as axis_states
-use Rattle.axis_state.specs.declared.definition.AxisRow.{AxisRow}
-use Rattle.axis_state.specs.declared.state.AxisState.{AxisState}
-use Rattle.axis_state.specs.declared.state.AxisState.TheVariants as state
+use Rattle.plc_types.specs.declared.axis.AxisRow.{AxisRow}
+use Rattle.plc_types.specs.declared.axis_state.AxisState.{AxisState}
+use Rattle.plc_types.specs.declared.axis_state.AxisState.TheVariants as state
 use Rattle.command_changes.specs.Axis as axis
 use Rattle.command_changes.specs.Group as group
 use Rattle.command_core.specs.Changes.{all_changed}
@@ -17,9 +17,9 @@ use Rattle.buffer_modes.specs.Owners.{owner_by, owner_count}
 use Rattle.axis_core.specs.blocks.Power.{is_powered}
 use Rattle.command_core.specs.CommandState.{CommandState, active_of}
 use Rattle.command_pool.specs.declared.ending.Finish.TheVariants as finish
-use Rattle.fb_outputs.specs.declared.inputs.Inputs.{Inputs}
-use Rattle.fb_outputs.specs.declared.outputs.Outputs.{Outputs}
-use Rattle.group_state.specs.declared.state.GroupRow.{GroupRow}
+use Rattle.plc_types.specs.declared.inputs.Inputs.{Inputs}
+use Rattle.plc_types.specs.declared.outputs.Outputs.{Outputs}
+use Rattle.plc_types.specs.declared.group.GroupRow.{GroupRow}
 use Rattle.motion_history.specs.Entries.{Entry, call, cycle, end_of}
 use Rattle.motion_history.specs.Setup.{Setup}
 use Rattle.motion_kernel.proofs.cycles.OneAxis.{goes_through}

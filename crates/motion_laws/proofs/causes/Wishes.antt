@@ -12,8 +12,8 @@ use Rattle.axis_core.specs.Steps.{is_braking, is_safe_step, old_step_of, step_to
 use Rattle.axis_core.specs.blocks.Cam.{cam_wish_where, is_in_sync}
 use Rattle.axis_core.specs.declared.axis.Axis.{Axis}
 use Rattle.axis_core.specs.declared.look.AxisLook.{AxisLook}
-use Rattle.command_pool.specs.declared.kind.BlockKind.{BlockKind}
-use Rattle.command_pool.specs.declared.kind.BlockKind.TheVariants as kind
+use Rattle.plc_types.specs.declared.kind.BlockKind.{BlockKind}
+use Rattle.plc_types.specs.declared.kind.BlockKind.TheVariants as kind
 use Rattle.command_pool.specs.declared.wanted.Wanted.{Wanted}
 use Rattle.kin_core.specs.Admissible.{IsSafe}
 use Rattle.motion_laws.specs.causes.Axis.{Brakes, CycleBrings, IsUnsafe, cam, limit, step_wanted}

@@ -16,16 +16,16 @@ use Rattle.axis_core.specs.blocks.Velocity.{least_velocity_of}
 use Rattle.axis_core.specs.declared.axis.Axis.{Axis}
 use Rattle.axis_core.specs.declared.reason.Reason.{Reason}
 use Rattle.axis_core.specs.declared.reason.Reason.TheVariants as reason
-use Rattle.axis_state.specs.Counts.{HasCounts, count_of}
+use Rattle.plc_types.specs.Counts.{HasCounts, count_of}
 use Rattle.axis_state.specs.States.{is_disabled, is_error_stop, is_homing, is_standstill, is_stopping}
-use Rattle.axis_state.specs.declared.state.AxisState.{AxisState}
-use Rattle.axis_state.specs.declared.state.AxisState.TheVariants as state
-use Rattle.command_pool.specs.declared.kind.BlockKind.{BlockKind}
-use Rattle.command_pool.specs.declared.kind.BlockKind.TheVariants as kind
+use Rattle.plc_types.specs.declared.axis_state.AxisState.{AxisState}
+use Rattle.plc_types.specs.declared.axis_state.AxisState.TheVariants as state
+use Rattle.plc_types.specs.declared.kind.BlockKind.{BlockKind}
+use Rattle.plc_types.specs.declared.kind.BlockKind.TheVariants as kind
 use Rattle.command_pool.specs.declared.wanted.Follow.{Follow}
 use Rattle.command_pool.specs.declared.wanted.Follow.TheVariants as follow
 use Rattle.command_pool.specs.declared.wanted.Wanted.{Wanted}
-use Rattle.kin_core.specs.declared.limits.Limits.{Limits}
+use Rattle.plc_types.specs.declared.limits.Limits.{Limits}
 use Rattle.motion_numbers.specs.Ranges.{is_outside}
 use Rattle.motion_laws.proofs.error_ids.Tests.{at_most, fails, first_same, none_same, nothing_of, not_or, outside, there, waits, within}
 use Rattle.motion_laws.specs.error_ids.Axis.{Condition, FollowsItself, HasBadRatio, HasNoTable, IsVelocity, Leaves, tested}

@@ -12,13 +12,13 @@ use Rattle.motion_kernel.specs.owners.Objects.{object_of}
 use Rattle.motion_kernel.specs.kept.Machine.{AreWhole}
 use Rattle.std.proofs.lemmas.Bool.{eq-eqb}
 use Rattle.axis_core.specs.declared.reason.Reason as axis_reason
-use Rattle.command_pool.specs.Kinds.{acts_on_group}
-use Rattle.command_pool.specs.declared.kind.BlockKind.{BlockKind}
+use Rattle.plc_types.specs.Kinds.{acts_on_group}
+use Rattle.plc_types.specs.declared.kind.BlockKind.{BlockKind}
 use Rattle.command_pool.specs.declared.wanted.Wanted.{Wanted}
 use Rattle.fb_outputs.specs.Steps.{edge_of, outputs_of}
-use Rattle.fb_outputs.specs.declared.inputs.Inputs.{Inputs}
+use Rattle.plc_types.specs.declared.inputs.Inputs.{Inputs}
 use Rattle.fb_outputs.specs.declared.instance.Edge.TheVariants as edge
-use Rattle.fb_outputs.specs.declared.outputs.Outputs.{Outputs}
+use Rattle.plc_types.specs.declared.outputs.Outputs.{Outputs}
 use Rattle.group_core.specs.Calls as group_calls
 use Rattle.group_core.specs.Calls.{commanded, commanded_by}
 use Rattle.group_core.specs.Refusals as group_refusals

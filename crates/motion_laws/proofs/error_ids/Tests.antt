@@ -9,8 +9,8 @@ use Rattle.std.proofs.lemmas.Bool.Decides.{Decides-int_eq, Decides-not}
 use Rattle.std.proofs.lemmas.Int.{ints}
 use Rattle.axis_core.specs.Ranges.{IsBetween}
 use Rattle.buffer_modes.specs.Queue.{is_aborting}
-use Rattle.command_pool.specs.declared.kind.BufferMode.{BufferMode}
-use Rattle.command_pool.specs.declared.kind.BufferMode.TheVariants as mode
+use Rattle.plc_types.specs.declared.kind.BufferMode.{BufferMode}
+use Rattle.plc_types.specs.declared.kind.BufferMode.TheVariants as mode
 use Rattle.motion_numbers.specs.Ranges.{is_outside}
 use Rattle.motion_laws.proofs.causes.Answers.{inside}
 use Rattle.motion_laws.specs.error_ids.First.{HoldsOfNone, IsFirst}

@@ -8,8 +8,8 @@ use Rattle.axis_core.specs.Cycles.{core_after_cycle, row_shown}
 use Rattle.axis_core.specs.Rows.{KeepsSpell}
 use Rattle.axis_core.specs.declared.axis.Axis.{Axis}
 use Rattle.axis_core.specs.declared.look.AxisLook.{AxisLook}
-use Rattle.axis_state.specs.declared.definition.AxisRow.{AxisRow}
-use Rattle.cia402_machine.specs.declared.drive.DriveIn.{DriveIn}
+use Rattle.plc_types.specs.declared.axis.AxisRow.{AxisRow}
+use Rattle.plc_types.specs.declared.drive.DriveIn.{DriveIn}
 use Rattle.motion_history.specs.Columns.{no_row}
 use Rattle.motion_history.specs.Setup.{Setup}
 use Rattle.motion_kernel.specs.cycles.Cycles.{look_of_axis, after_cycle, around_in, cycled, stepped_in}

@@ -8,11 +8,12 @@ use Rattle.axis_core.specs.Cycles.{axis_at_opening}
 use Rattle.axis_core.specs.Rows.{Stays, spell_of}
 use Rattle.axis_core.specs.declared.axis.Axis.{Axis}
 use Rattle.axis_state.specs.Spells.{KeepsLimits, KeepsRow, Spell, opening_spell}
-use Rattle.axis_state.specs.declared.definition.AxisDef.{AxisDef}
-use Rattle.axis_state.specs.declared.definition.AxisRow.{AxisRow}
-use Rattle.group_state.specs.declared.state.GroupRow.{GroupRow}
-use Rattle.kin_core.specs.declared.limits.Limits.{Limits}
-use Rattle.motion_history.specs.Columns.{KeepTheirLimits, no_row, rows_in}
+use Rattle.plc_types.specs.declared.axis.AxisDef.{AxisDef}
+use Rattle.plc_types.specs.declared.axis.AxisRow.{AxisRow}
+use Rattle.plc_types.specs.declared.group.GroupRow.{GroupRow}
+use Rattle.plc_types.specs.declared.limits.Limits.{Limits}
+use Rattle.motion_history.specs.Columns.{no_row, rows_in}
+use Rattle.motion_laws.specs.limits.Rows.{KeepTheirLimits}
 use Rattle.motion_history.specs.Entries.{Entry, call, cycle, cycle_count, end_of}
 use Rattle.motion_history.specs.Setup.{Setup, IsSetup}
 use Rattle.motion_kernel.specs.calls.Calls.{after_call}

@@ -5,7 +5,7 @@ use Rattle.std.proofs.Common.{arith, subst}
 use Rattle.group_core.specs.GroupKept.{IsPathOf}
 use Rattle.group_core.specs.Tracks.{OnPath}
 use Rattle.kin_core.specs.Admissible.{IsKept}
-use Rattle.kin_core.specs.declared.limits.Limits.{Limits}
+use Rattle.plc_types.specs.declared.limits.Limits.{Limits}
 use Rattle.motion_history.specs.Setup.{Setup}
 use Rattle.motion_kernel.specs.Machine.{Machine, axis_at, group_at}
 use Rattle.motion_kernel.specs.kept.Machine.{IsMachineKept, limits_of}

@@ -2,8 +2,8 @@
 -- history.
 -- for: machines_can_stand, replies_show_commands, commands_are_where_their_instances_show and others
 use Rattle.std.specs.Prelude.{ℕ, List}
-use Rattle.cia402_machine.specs.declared.drive.DriveIn.{DriveIn}
-use Rattle.fb_outputs.specs.declared.inputs.Inputs.{Inputs}
+use Rattle.plc_types.specs.declared.drive.DriveIn.{DriveIn}
+use Rattle.plc_types.specs.declared.inputs.Inputs.{Inputs}
 use Rattle.motion_history.specs.Calls.{IsCall}
 use Rattle.motion_history.specs.Entries.{Entry}
 use Rattle.motion_history.specs.Setup.{Setup, IsSetup}

@@ -2,12 +2,12 @@
 -- for: results_are_told
 use Rattle.std.specs.Prelude.{◌≡◌, ℕ, false, nat_eq, List}
 use Rattle.std.proofs.Common.{ap, ◌∙◌}
-use Rattle.cia402_machine.specs.declared.drive.DriveIn.{DriveIn}
+use Rattle.plc_types.specs.declared.drive.DriveIn.{DriveIn}
 use Rattle.command_core.specs.Brought.{brought}
 use Rattle.command_core.specs.Changes.{Change}
 use Rattle.fb_outputs.specs.InstanceState.{InstanceState}
 use Rattle.fb_outputs.specs.Steps as instance
-use Rattle.fb_outputs.specs.declared.inputs.Inputs.{Inputs}
+use Rattle.plc_types.specs.declared.inputs.Inputs.{Inputs}
 use Rattle.fb_outputs.specs.declared.instance.Progress.{Progress}
 use Rattle.motion_history.specs.Calls.{IsCall}
 use Rattle.motion_history.specs.Setup.{Setup}

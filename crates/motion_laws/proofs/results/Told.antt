@@ -6,9 +6,9 @@ use Rattle.command_changes.specs.Fates.{AreAxisFates, AreGroupFates}
 use Rattle.command_pool.specs.declared.ending.Finish.{Finish}
 use Rattle.command_pool.specs.declared.ending.Finish.TheVariants as finish
 use Rattle.fb_outputs.specs.Steps.{edge_of, is_power}
-use Rattle.fb_outputs.specs.declared.inputs.Inputs.{Inputs}
+use Rattle.plc_types.specs.declared.inputs.Inputs.{Inputs}
 use Rattle.fb_outputs.specs.declared.instance.Progress.TheVariants.{Ended}
-use Rattle.fb_outputs.specs.declared.outputs.Outputs.{Outputs}
+use Rattle.plc_types.specs.declared.outputs.Outputs.{Outputs}
 use Rattle.motion_history.specs.Entries.{Entry, call, cycle, cycle_count, cycles_of, end_of}
 use Rattle.motion_history.specs.Setup.{Setup, IsSetup}
 use Rattle.motion_history.specs.declared.config.BlockDef.{BlockDef}

@@ -3,10 +3,10 @@
 use Rattle.std.specs.Prelude.{◌≡◌, refl, ℕ, zero, suc, ◌<◌, Bool, ℤ, Option, Some, None, List, [], ◌∷◌, length, map, slice_get}
 use Rattle.std.proofs.Common.{arith, ap, sym, subst, ◌∙◌}
 use Rattle.buffer_modes.specs.declared.reset.PendingReset.{PendingReset}
-use Rattle.cia402_machine.specs.declared.drive.DriveIn.{DriveIn}
+use Rattle.plc_types.specs.declared.drive.DriveIn.{DriveIn}
 use Rattle.command_pool.specs.declared.wanted.Wanted.{Wanted}
-use Rattle.fb_outputs.specs.declared.inputs.Inputs.{Inputs}
-use Rattle.axis_state.specs.declared.state.AxisState.{AxisState}
+use Rattle.plc_types.specs.declared.inputs.Inputs.{Inputs}
+use Rattle.plc_types.specs.declared.axis_state.AxisState.{AxisState}
 use Rattle.group_core.specs.Calls.{commanded, group_without, powered_off}
 use Rattle.group_core.specs.Cores.{Core}
 use Rattle.group_core.specs.Cycles as group

@@ -20,20 +20,20 @@ use Rattle.axis_core.specs.declared.look.AxisLook.{AxisLook}
 use Rattle.axis_core.specs.declared.progress.Progress.{Progress}
 use Rattle.axis_core.specs.declared.reason.Reason.{Reason}
 use Rattle.axis_state.specs.States.{is_error_stop}
-use Rattle.axis_state.specs.declared.definition.AxisDef.{AxisDef}
+use Rattle.plc_types.specs.declared.axis.AxisDef.{AxisDef}
 use Rattle.buffer_modes.specs.Queue.{is_active_at_once}
 use Rattle.buffer_modes.specs.declared.reset.PendingReset.{PendingReset}
 use Rattle.cia402_machine.specs.Controlword.{has_reset_bit, next_controlword_of}
 use Rattle.cia402_machine.specs.Statusword.{state_of_word}
-use Rattle.cia402_machine.specs.declared.drive.DriveIn.{DriveIn}
-use Rattle.cia402_machine.specs.declared.drive.DriveState.{DriveState}
-use Rattle.cia402_machine.specs.declared.drive.DriveState.TheVariants.{SwitchOnDisabled, ReadyToSwitchOn, SwitchedOn, OperationEnabled, Fault}
+use Rattle.plc_types.specs.declared.drive.DriveIn.{DriveIn}
+use Rattle.plc_types.specs.declared.drive.DriveState.{DriveState}
+use Rattle.plc_types.specs.declared.drive.DriveState.TheVariants.{SwitchOnDisabled, ReadyToSwitchOn, SwitchedOn, OperationEnabled, Fault}
 use Rattle.command_pool.specs.declared.ending.Finish.{Finish}
 use Rattle.command_pool.specs.declared.ending.Finish.TheVariants as finish
-use Rattle.command_pool.specs.declared.kind.BlockKind.{BlockKind}
-use Rattle.command_pool.specs.declared.kind.BlockKind.TheVariants as kind
+use Rattle.plc_types.specs.declared.kind.BlockKind.{BlockKind}
+use Rattle.plc_types.specs.declared.kind.BlockKind.TheVariants as kind
 use Rattle.command_pool.specs.declared.wanted.Wanted.{Wanted}
-use Rattle.kin_core.specs.declared.limits.Limits.{Limits}
+use Rattle.plc_types.specs.declared.limits.Limits.{Limits}
 use Rattle.motion_kernel.proofs.Sizes.{by_if}
 use Rattle.motion_kernel.specs.Machine.{axis_among}
 use Rattle.motion_laws.specs.Standing.{IsSteered, is_given}

@@ -13,13 +13,13 @@ use Rattle.axis_core.specs.Owners.{core_without_owner}
 use Rattle.axis_core.specs.Refusals.{Asked}
 use Rattle.axis_core.specs.blocks.Path.{axis_on_path, is_on_path}
 use Rattle.axis_core.specs.declared.axis.Axis.{Axis}
-use Rattle.command_pool.specs.Kinds.{acts_on_group}
+use Rattle.plc_types.specs.Kinds.{acts_on_group}
 use Rattle.command_pool.specs.Waiting.{detached, queue_of}
 use Rattle.command_pool.specs.declared.ending.Refusal.{Refusal}
-use Rattle.command_pool.specs.declared.kind.BlockKind.{BlockKind}
+use Rattle.plc_types.specs.declared.kind.BlockKind.{BlockKind}
 use Rattle.command_pool.specs.declared.wanted.Wanted.{Wanted}
 use Rattle.fb_outputs.specs.Steps.{is_power}
-use Rattle.fb_outputs.specs.declared.inputs.Inputs.{Inputs}
+use Rattle.plc_types.specs.declared.inputs.Inputs.{Inputs}
 use Rattle.group_core.specs.Calls.{answer_of, commanded, powered_off}
 use Rattle.motion_history.specs.Setup.{Setup}
 use Rattle.motion_history.specs.declared.config.BlockDef.{BlockDef}

@@ -2,11 +2,11 @@
 -- MC_MoveLinearAbsolute).
 use Rattle.std.specs.Prelude.{◌≡◌, ℕ, ◌<◌, ℤ, ◌≤ℤ◌, pos, true, Some, List, ◌∷◌, ◌++◌, length, slice_get}
 use Rattle.axis_core.specs.blocks.Path.{is_on_path}
-use Rattle.axis_state.specs.declared.definition.AxisRow.{AxisRow}
-use Rattle.command_pool.specs.declared.kind.BlockKind.TheVariants as kind
+use Rattle.plc_types.specs.declared.axis.AxisRow.{AxisRow}
+use Rattle.plc_types.specs.declared.kind.BlockKind.TheVariants as kind
 use Rattle.command_pool.specs.declared.wanted.Wanted.{Wanted}
 use Rattle.group_core.specs.Tracks.{OnPath, length_of, place_on}
-use Rattle.group_state.specs.declared.state.GroupRow.{GroupRow}
+use Rattle.plc_types.specs.declared.group.GroupRow.{GroupRow}
 use Rattle.motion_history.specs.Entries.{Entry, cycle}
 use Rattle.motion_history.specs.Setup.{Setup}
 use Rattle.motion_kernel.specs.Histories.{after, machine_after}

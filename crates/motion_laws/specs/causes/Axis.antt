@@ -13,11 +13,11 @@ use Rattle.axis_core.specs.blocks.Velocity.{step_to_velocity}
 use Rattle.axis_core.specs.declared.axis.Axis.{Axis}
 use Rattle.axis_core.specs.declared.look.AxisLook.{AxisLook}
 use Rattle.cia402_machine.specs.Statusword.{state_of_word}
-use Rattle.cia402_machine.specs.declared.drive.DriveIn.{DriveIn}
-use Rattle.cia402_machine.specs.declared.drive.DriveState.TheVariants as drive
+use Rattle.plc_types.specs.declared.drive.DriveIn.{DriveIn}
+use Rattle.plc_types.specs.declared.drive.DriveState.TheVariants as drive
 use Rattle.command_pool.specs.declared.ending.Finish.TheVariants as finish
-use Rattle.command_pool.specs.declared.kind.BlockKind.{BlockKind}
-use Rattle.command_pool.specs.declared.kind.BlockKind.TheVariants as kind
+use Rattle.plc_types.specs.declared.kind.BlockKind.{BlockKind}
+use Rattle.plc_types.specs.declared.kind.BlockKind.TheVariants as kind
 use Rattle.command_pool.specs.declared.wanted.Wanted.{Wanted}
 use Rattle.follow_plan.specs.Gear.{gear_toward_of}
 use Rattle.kin_core.specs.Admissible.{IsSafe}

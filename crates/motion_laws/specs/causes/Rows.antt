@@ -1,9 +1,9 @@
 -- Where the errors come from that rows show, and by which commands end (PLCopen Motion Control Part
 -- 1 and Part 4, the state diagrams).
 use Rattle.std.specs.Prelude.{◌≡◌, ◌≢◌, ℕ, true, false, Some, List, [], ◌∷◌, ◌++◌, slice_get}
-use Rattle.axis_state.specs.declared.definition.AxisRow.{AxisRow}
+use Rattle.plc_types.specs.declared.axis.AxisRow.{AxisRow}
 use Rattle.command_pool.specs.declared.ending.Finish.TheVariants as finish
-use Rattle.group_state.specs.declared.state.GroupRow.{GroupRow}
+use Rattle.plc_types.specs.declared.group.GroupRow.{GroupRow}
 use Rattle.motion_history.specs.Entries.{Entry, call, cycle, end_of}
 use Rattle.motion_history.specs.Setup.{Setup}
 use Rattle.motion_kernel.specs.Histories.{after, inputs_of, machine_after}

@@ -3,10 +3,10 @@
 use Rattle.std.specs.Prelude.{◌≡◌, ℕ, true, false, Some, List, slice_get}
 use Rattle.axis_core.specs.Shown.{IsAxisError}
 use Rattle.axis_state.specs.States as axis
-use Rattle.axis_state.specs.declared.definition.AxisRow.{AxisRow}
+use Rattle.plc_types.specs.declared.axis.AxisRow.{AxisRow}
 use Rattle.group_core.specs.Shown.{IsGroupError}
 use Rattle.group_core.specs.States as group
-use Rattle.group_state.specs.declared.state.GroupRow.{GroupRow}
+use Rattle.plc_types.specs.declared.group.GroupRow.{GroupRow}
 use Rattle.motion_history.specs.Entries.{Entry, call, cycle, end_of}
 
 -- the row of an axis shows the number of an axis error exactly in ErrorStop, and else 0

@@ -1,7 +1,7 @@
 -- By which events of its diagram each group changes its state in an entry of a history (PLCopen
 -- Motion Control Part 4).
 use Rattle.std.specs.Prelude.{ℕ, is_some, List, [], ◌++◌, length, slice_get}
-use Rattle.cia402_machine.specs.declared.drive.DriveIn.{DriveIn}
+use Rattle.plc_types.specs.declared.drive.DriveIn.{DriveIn}
 use Rattle.group_core.specs.Cores.{Core}
 use Rattle.group_core.specs.declared.group.Group.{Group}
 use Rattle.group_core.specs.declared.look.GroupLook.{GroupLook}

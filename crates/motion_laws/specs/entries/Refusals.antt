@@ -3,10 +3,10 @@ use Rattle.std.specs.Prelude.{◌≡◌, ℕ, ◌≤◌, true, false}
 use Rattle.command_pool.specs.declared.ending.Finish.TheVariants as finish
 use Rattle.fb_outputs.specs.InstanceState.{InstanceState}
 use Rattle.fb_outputs.specs.Steps.{edge_of}
-use Rattle.fb_outputs.specs.declared.inputs.Inputs.{Inputs}
+use Rattle.plc_types.specs.declared.inputs.Inputs.{Inputs}
 use Rattle.fb_outputs.specs.declared.instance.Edge.TheVariants.{Rising}
 use Rattle.fb_outputs.specs.declared.instance.Progress.TheVariants.{Ended}
-use Rattle.fb_outputs.specs.declared.outputs.Outputs.{Outputs}
+use Rattle.plc_types.specs.declared.outputs.Outputs.{Outputs}
 use Rattle.motion_kernel.specs.calls.Calls.{with_instance, without_owner}
 use Rattle.motion_kernel.specs.Machine.{Machine, instance_at}
 

@@ -1,10 +1,10 @@
 -- By which ErrorID a call is refused (PLCopen Motion Control Part 1 and Part 4, ErrorID).
 use Rattle.std.specs.Prelude.{◌≡◌, ℕ, Bool, true, false, Some, List, ◌∷◌, ◌++◌, slice_get}
-use Rattle.command_pool.specs.Kinds.{acts_on_group}
+use Rattle.plc_types.specs.Kinds.{acts_on_group}
 use Rattle.fb_outputs.specs.Steps.{edge_of, is_power}
-use Rattle.fb_outputs.specs.declared.inputs.Inputs.{Inputs}
+use Rattle.plc_types.specs.declared.inputs.Inputs.{Inputs}
 use Rattle.fb_outputs.specs.declared.instance.Edge.TheVariants.{Rising}
-use Rattle.fb_outputs.specs.declared.outputs.Outputs.{Outputs}
+use Rattle.plc_types.specs.declared.outputs.Outputs.{Outputs}
 use Rattle.group_core.specs.Calls.{asked_in}
 use Rattle.motion_history.specs.Entries.{Entry, call}
 use Rattle.motion_history.specs.Setup.{Setup}

@@ -3,14 +3,14 @@
 use Rattle.std.specs.Prelude.{ℕ, List, [], ◌++◌, slice_get}
 use Rattle.axis_core.specs.Cores as axes
 use Rattle.buffer_modes.specs.Fates.{Fate}
-use Rattle.cia402_machine.specs.declared.drive.DriveIn.{DriveIn}
+use Rattle.plc_types.specs.declared.drive.DriveIn.{DriveIn}
 use Rattle.command_changes.specs.Axis as axis
 use Rattle.command_changes.specs.Group as group
 use Rattle.command_core.specs.Changes.{Change, all_changed}
 use Rattle.command_core.specs.CommandState.{CommandState}
 use Rattle.command_core.specs.Fates.{fate_in}
 use Rattle.command_pool.specs.declared.notes.Note.{Note}
-use Rattle.fb_outputs.specs.declared.inputs.Inputs.{Inputs}
+use Rattle.plc_types.specs.declared.inputs.Inputs.{Inputs}
 use Rattle.group_core.specs.Cores as groups
 use Rattle.motion_history.specs.Entries.{Entry, call, cycle, end_of}
 use Rattle.motion_history.specs.Setup.{Setup}

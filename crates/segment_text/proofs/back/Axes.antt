@@ -5,8 +5,8 @@ use Rattle.std.specs.Fmt.{signed_decimal}
 use Rattle.std.proofs.Common.{subst, sym}
 use Rattle.line_text.specs.Numbers.{◌>>=◌}
 use Rattle.axis_core.specs.declared.axis.Axis.{Axis}
-use Rattle.axis_state.specs.declared.definition.AxisDef.{AxisDef}
-use Rattle.axis_state.specs.declared.state.AxisState.{AxisState}
+use Rattle.plc_types.specs.declared.axis.AxisDef.{AxisDef}
+use Rattle.plc_types.specs.declared.axis_state.AxisState.{AxisState}
 use Rattle.buffer_modes.specs.declared.reset.PendingReset.{PendingReset}
 use Rattle.command_pool.specs.declared.wanted.Wanted.{Wanted}
 use Rattle.segment_text.specs.Fields.{owner_text, reset_text}

@@ -8,17 +8,17 @@ use Rattle.std.specs.Str.{bytes_eq}
 use Rattle.std.proofs.Common.{◌∙◌, ap, arith, sym, subst}
 use Rattle.std.proofs.lemmas.Bool.{and_parts, eqb-true, false_from_ne_true, leb-true, lt-ltb, ltb-true, ne_eqb}
 use Rattle.std.proofs.lemmas.Fmt.{decimal_digit, decimal_nonempty}
-use Rattle.axis_state.specs.declared.state.AxisState.TheVariants as axis
-use Rattle.command_pool.specs.declared.kind.BlockKind.TheVariants as kind
-use Rattle.command_pool.specs.declared.kind.BufferMode.TheVariants as mode
-use Rattle.group_state.specs.declared.state.GroupState.TheVariants as group
+use Rattle.plc_types.specs.declared.axis_state.AxisState.TheVariants as axis
+use Rattle.plc_types.specs.declared.kind.BlockKind.TheVariants as kind
+use Rattle.plc_types.specs.declared.kind.BufferMode.TheVariants as mode
+use Rattle.plc_types.specs.declared.group.GroupState.TheVariants as group
 use Rattle.std.proofs.lemmas.Int.{ints}
-use Rattle.axis_state.specs.declared.state.AxisState.{AxisState}
+use Rattle.plc_types.specs.declared.axis_state.AxisState.{AxisState}
 use Rattle.buffer_modes.specs.declared.reset.PendingReset.{PendingReset}
-use Rattle.command_pool.specs.declared.kind.BlockKind.{BlockKind}
-use Rattle.command_pool.specs.declared.kind.BufferMode.{BufferMode}
-use Rattle.fb_outputs.specs.Names.{kind_name, kind_named, mode_name, mode_named}
-use Rattle.group_state.specs.declared.state.GroupState.{GroupState}
+use Rattle.plc_types.specs.declared.kind.BlockKind.{BlockKind}
+use Rattle.plc_types.specs.declared.kind.BufferMode.{BufferMode}
+use Rattle.plc_types.specs.KindNames.{kind_name, kind_named, mode_name, mode_named}
+use Rattle.plc_types.specs.declared.group.GroupState.{GroupState}
 use Rattle.line_text.specs.Texts.{says}
 use Rattle.line_text.proofs.Texts.{bytes-same}
 use Rattle.segment_text.specs.Fields.{owner_text, pending_text, reset_text, target_text}

@@ -7,8 +7,8 @@ use Rattle.command_pool.specs.declared.rates.Rates.{Rates}
 use Rattle.command_pool.specs.declared.wanted.Follow.{Follow}
 use Rattle.command_pool.specs.declared.wanted.Follow.TheVariants as follow
 use Rattle.command_pool.specs.declared.wanted.Wanted.{Wanted}
-use Rattle.fb_outputs.specs.Names.{kind_named, mode_named}
-use Rattle.fb_outputs.proofs.NameLaws.{kind_named-kind_name, mode_named-mode_name}
+use Rattle.plc_types.specs.KindNames.{kind_named, mode_named}
+use Rattle.plc_types.proofs.KindNameLaws.{kind_named-kind_name, mode_named-mode_name}
 use Rattle.line_text.specs.Texts.{says}
 use Rattle.segment_text.specs.Fields.{follow_fields}
 use Rattle.segment_text.specs.Held.{AreRates, AreSix, IsFollow, IsWanted}

@@ -5,7 +5,7 @@ use Rattle.std.specs.List.{AllZip}
 use Rattle.std.proofs.Common.{◌∙◌, ap, append_assoc, arith, sym}
 use Rattle.std.proofs.lemmas.List.{append-nil, length-append}
 use Rattle.axis_core.specs.declared.axis.Axis.{Axis}
-use Rattle.axis_state.specs.declared.definition.AxisDef.{AxisDef}
+use Rattle.plc_types.specs.declared.axis.AxisDef.{AxisDef}
 use Rattle.command_pool.specs.declared.wanted.Wanted.{Wanted}
 use Rattle.fb_outputs.specs.InstanceState.{InstanceState}
 use Rattle.line_text.specs.Texts.{says}

@@ -3,14 +3,14 @@
 use Rattle.std.specs.Prelude.{◌≡◌, refl, ℕ, ◌≤◌, ◌&&◌, ℤ, false, nat_le, Option, Some, None, IfSome, IsTrue, List, [], ◌∷◌, ◌++◌, codes, decimal}
 use Rattle.std.proofs.Common.{◌∙◌, ap, append_assoc, arith, inl, inr, subst}
 use Rattle.std.specs.Str.{bytes_eq}
-use Rattle.command_pool.specs.declared.kind.BlockKind.{BlockKind}
-use Rattle.command_pool.specs.declared.kind.BlockKind.TheVariants as kind
-use Rattle.fb_outputs.specs.Names.{kind_name}
+use Rattle.plc_types.specs.declared.kind.BlockKind.{BlockKind}
+use Rattle.plc_types.specs.declared.kind.BlockKind.TheVariants as kind
+use Rattle.plc_types.specs.KindNames.{kind_name}
 use Rattle.std.proofs.lemmas.Bool.{and_parts, cases_Bool, le-leb, leb-true}
 use Rattle.command_pool.specs.declared.wanted.Wanted.{Wanted}
 use Rattle.group_core.specs.Tracks.{OnPath, Way}
 use Rattle.group_core.specs.declared.group.Motion.{Motion}
-use Rattle.kin_core.specs.declared.limits.Limits.{Limits}
+use Rattle.plc_types.specs.declared.limits.Limits.{Limits}
 use Rattle.line_text.specs.Texts.{says}
 use Rattle.segment_text.specs.Held.{AreWideLimits, IsOnPath, IsWay, IsWide}
 use Rattle.segment_text.specs.Records.{limits_fields, motion_fields, path_fields, way_fields}

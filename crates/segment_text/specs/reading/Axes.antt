@@ -1,8 +1,8 @@
 -- Axes, read from the fields of a header's records. This project's profile.
 use Rattle.std.specs.Prelude.{ℕ, pos, false, Option, Some, None, List, ◌∷◌}
 use Rattle.axis_core.specs.declared.axis.Axis.{Axis}
-use Rattle.axis_state.specs.declared.definition.AxisDef.{AxisDef}
-use Rattle.axis_state.specs.declared.state.AxisState.TheVariants.{Disabled}
+use Rattle.plc_types.specs.declared.axis.AxisDef.{AxisDef}
+use Rattle.plc_types.specs.declared.axis_state.AxisState.TheVariants.{Disabled}
 use Rattle.line_text.specs.Numbers.{◌>>=◌}
 use Rattle.segment_text.specs.reading.Columns.{Front, owner_of, reset_of, word_of}
 use Rattle.segment_text.specs.reading.Commands.{active_of}

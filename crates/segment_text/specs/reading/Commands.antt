@@ -4,7 +4,7 @@ use Rattle.command_pool.specs.declared.rates.Rates.{Rates}
 use Rattle.command_pool.specs.declared.wanted.Follow.{Follow}
 use Rattle.command_pool.specs.declared.wanted.Follow.TheVariants as follow
 use Rattle.command_pool.specs.declared.wanted.Wanted.{Wanted}
-use Rattle.fb_outputs.specs.Names.{kind_named, mode_named}
+use Rattle.plc_types.specs.KindNames.{kind_named, mode_named}
 use Rattle.line_text.specs.Numbers.{◌>>=◌}
 use Rattle.line_text.specs.Texts.{says}
 use Rattle.segment_text.specs.reading.Columns.{Front, byte_of, owner_of, target_of, word_of}

@@ -3,7 +3,7 @@ use Rattle.std.specs.Prelude.{ℕ, ℤ, nat_le, Bool, ◌&&◌, if◌then◌else
 use Rattle.std.specs.List.{list_all}
 use Rattle.group_core.specs.Tracks.{OnPath, Way}
 use Rattle.group_core.specs.declared.group.Motion.{Motion}
-use Rattle.kin_core.specs.declared.limits.Limits.{Limits}
+use Rattle.plc_types.specs.declared.limits.Limits.{Limits}
 use Rattle.line_text.specs.Numbers.{◌>>=◌}
 use Rattle.line_text.specs.Texts.{says}
 use Rattle.motion_history.specs.declared.config.GroupDef.{GroupDef}

@@ -7,8 +7,8 @@ ghost use Rattle.segment_text.specs.reading.Commands as spec;
 
 use crate::reading::column::{byte_of, owner_of, target_of};
 use command_pool::{Follow, Rates, Wanted};
-use fb_outputs::{kind_named, mode_named};
 use line_text::says;
+use plc_types::{kind_named, mode_named};
 use trace_columns::{wide_number_of, word_of};
 
 /// The six numbers with which fields begin, and the fields after them.

@@ -5,9 +5,10 @@ ghost use Rattle.std.specs.Option.{option_map};
 ghost use Rattle.line_text.specs.Texts.{texts};
 ghost use Rattle.segment_text.specs.reading.Instances as spec;
 
-use command_pool::{BlockKind, Finish};
+use command_pool::Finish;
 use fb_outputs::{Instance, Progress};
 use line_text::says;
+use plc_types::BlockKind;
 use trace_columns::{flag_of, word_of};
 
 // How far a command is that hasn't ended.

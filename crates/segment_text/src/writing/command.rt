@@ -7,8 +7,8 @@ ghost use Rattle.segment_text.specs.WantedFields as spec;
 
 use crate::writing::field::{owner_text, push_fields, push_numbers, target_text};
 use command_pool::{Follow, Rates, Wanted};
-use fb_outputs::{kind_name, mode_name};
 use itoa::Buffer;
+use plc_types::{kind_name, mode_name};
 use std::alloc::AllocError;
 
 // Puts the fields before the positions of a command.

@@ -21,12 +21,12 @@ use Rattle.axis_state.specs.Diagram.{next_of}
 use Rattle.axis_state.specs.States.{is_error_stop, is_stopping}
 use Rattle.axis_state.specs.declared.diagram.AxisEvent.{AxisEvent}
 use Rattle.axis_state.specs.declared.diagram.AxisEvent.TheVariants as event
-use Rattle.axis_state.specs.declared.state.AxisState.{AxisState}
-use Rattle.axis_state.specs.declared.state.AxisState.TheVariants as state
+use Rattle.plc_types.specs.declared.axis_state.AxisState.{AxisState}
+use Rattle.plc_types.specs.declared.axis_state.AxisState.TheVariants as state
 use Rattle.buffer_modes.specs.Fates.{Fate, goes_on, replaced}
 use Rattle.buffer_modes.specs.Owners.{is_released}
 use Rattle.buffer_modes.specs.declared.reset.PendingReset.{PendingReset}
-use Rattle.cia402_machine.specs.declared.drive.DriveIn.{DriveIn}
+use Rattle.plc_types.specs.declared.drive.DriveIn.{DriveIn}
 use Rattle.command_pool.specs.declared.ending.Finish.TheVariants as finish
 use Rattle.state_events.proofs.axis.Ends.{Tail, moves-by, tail_of}
 use Rattle.state_events.proofs.axis.Failing.{error-says, failed-run, leaves-says}

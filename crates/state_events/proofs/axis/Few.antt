@@ -5,8 +5,8 @@ use Rattle.std.proofs.Common.{arith, length-append, subst, sym}
 use Rattle.axis_state.specs.States.{is_error_stop}
 use Rattle.axis_state.specs.declared.diagram.AxisEvent.{AxisEvent}
 use Rattle.axis_state.specs.declared.diagram.AxisEvent.TheVariants as event
-use Rattle.axis_state.specs.declared.state.AxisState.{AxisState}
-use Rattle.axis_state.specs.declared.state.AxisState.TheVariants as state
+use Rattle.plc_types.specs.declared.axis_state.AxisState.{AxisState}
+use Rattle.plc_types.specs.declared.axis_state.AxisState.TheVariants as state
 use Rattle.axis_core.specs.Cores.{Core}
 use Rattle.axis_core.specs.Cycles.{Advance, advance_in_cycle, advance_without_error}
 use Rattle.axis_core.specs.Drives.{answer_error_of, has_fault, is_driven}
@@ -19,8 +19,8 @@ use Rattle.axis_core.specs.declared.look.AxisLook.{AxisLook}
 use Rattle.buffer_modes.specs.Fates.{Fate, goes_on, replaced}
 use Rattle.command_pool.specs.declared.ending.Finish.{Finish}
 use Rattle.command_pool.specs.declared.ending.Finish.TheVariants as finish
-use Rattle.command_pool.specs.declared.kind.BlockKind.{BlockKind}
-use Rattle.command_pool.specs.declared.kind.BlockKind.TheVariants as kind
+use Rattle.plc_types.specs.declared.kind.BlockKind.{BlockKind}
+use Rattle.plc_types.specs.declared.kind.BlockKind.TheVariants as kind
 use Rattle.command_pool.specs.declared.wanted.Wanted.{Wanted}
 use Rattle.group_core.proofs.KeptCalls.{by-if}
 use Rattle.state_events.specs.Axis.{begin_events, command_events, cycle_events, driven_events, ending_events, event_where, events_by, giving_events, going_events, last_events, path_events, power_events, release_events, reset_events, reset_row, rests_in, run_events, state_by, step_events}

@@ -4,13 +4,13 @@ use Rattle.std.specs.Prelude.{◌≡◌, refl, ℕ, ◌-◌, ◌^◌, ◌≤◌,
 use Rattle.std.specs.Fmt.{signed_decimal}
 use Rattle.std.proofs.Common.{sym, arith}
 use Rattle.std.proofs.lemmas.Int.{ints}
-use Rattle.axis_state.specs.declared.definition.AxisRow.{AxisRow}
-use Rattle.group_state.specs.declared.state.GroupRow.{GroupRow}
+use Rattle.plc_types.specs.declared.axis.AxisRow.{AxisRow}
+use Rattle.plc_types.specs.declared.group.GroupRow.{GroupRow}
 use Rattle.motion_history.specs.Setup.{Setup}
 use Rattle.motion_history.specs.declared.refused.TraceVersion.{TraceVersion}
 use Rattle.motion_history.specs.declared.refused.TraceVersion.TheVariants.{One, Two}
 use Rattle.trace_columns.specs.Fields.{axis_state_text, flag_text, hex_text}
-use Rattle.axis_state.specs.declared.definition.AxisDef.{AxisDef}
+use Rattle.plc_types.specs.declared.axis.AxisDef.{AxisDef}
 use Rattle.trace_columns.specs.ReadBack.{AreReadBack}
 use Rattle.trace_text.specs.Records.{axis_name, cycle_fields, drive_fields, group_name, grow_fields, padded, reported_place, reported_text, row_fields}
 use Rattle.trace_text.specs.RowRanges.{IsRow, IsGroupRow, IsDriveEnd, IsReported, found_row, found_place}

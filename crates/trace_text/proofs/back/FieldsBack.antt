@@ -7,10 +7,10 @@ use Rattle.std.proofs.Common.{arith}
 use Rattle.std.proofs.lemmas.Int.{ints}
 use Rattle.std.proofs.lemmas.List.Elements.{All-from_get_or, recursion_from_All}
 use Rattle.std.proofs.lemmas.Bool.{true_from_ne_false}
-use Rattle.axis_state.specs.declared.definition.AxisDef.{AxisDef}
+use Rattle.plc_types.specs.declared.axis.AxisDef.{AxisDef}
 use Rattle.cam_table.specs.CamTable.{IsCamTable, is_cam_table, size_of}
 use Rattle.csv_records.specs.Records.{RecordsAreReadBack}
-use Rattle.fb_outputs.specs.Names.{AreNamed}
+use Rattle.plc_types.specs.KindNames.{AreNamed}
 use Rattle.line_text.specs.Reading.{each_of}
 use Rattle.line_text.specs.Rules.{in_range}
 use Rattle.motion_history.specs.AxisRanges.{AreAxisRanges}

@@ -9,10 +9,10 @@ use Rattle.std.proofs.lemmas.Bool.{and_parts, cases_Bool, false_from_ne_true, le
 use Rattle.std.proofs.lemmas.List.{append-nil, length-append, length-take-le, take-append-drop}
 use Rattle.std.proofs.lemmas.List.Elements.{recursion_from_All}
 use Rattle.std.proofs.Math.Bool.{or-true}
-use Rattle.axis_state.specs.Names.{is_name, is_name_byte}
-use Rattle.axis_state.specs.declared.definition.AxisDef.{AxisDef}
+use Rattle.plc_types.specs.Names.{is_name, is_name_byte}
+use Rattle.plc_types.specs.declared.axis.AxisDef.{AxisDef}
 use Rattle.cam_table.specs.CamTable.{IsCamTable}
-use Rattle.command_pool.specs.Kinds.{acts_on_group}
+use Rattle.plc_types.specs.Kinds.{acts_on_group}
 use Rattle.line_text.specs.Reading.{each_of}
 use Rattle.machine_words.specs.Names.{axis_at, axis_named, group_at, object_at, task_at}
 use Rattle.machine_words.specs.Tables.{table_added}

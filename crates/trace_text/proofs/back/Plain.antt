@@ -7,7 +7,7 @@ use Rattle.std.proofs.Common.{arith, subst, sym, ◌∙◌}
 use Rattle.std.proofs.lemmas.Bool.{and_parts, ne_eqb}
 use Rattle.std.proofs.lemmas.Fmt.{decimal_by_steps}
 use Rattle.std.proofs.lemmas.Int.{ints}
-use Rattle.axis_state.specs.Names.{is_name, is_name_byte, is_letter}
+use Rattle.plc_types.specs.Names.{is_name, is_name_byte, is_letter}
 use Rattle.machine_words.proofs.Lists.{all-push}
 use Rattle.motion_history.proofs.DistinctLemmas.{each-weaker}
 

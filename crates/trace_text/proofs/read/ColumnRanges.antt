@@ -7,7 +7,7 @@ use Rattle.std.specs.Str.{bytes_eq}
 use Rattle.std.specs.Str.Parse.{signed_digits_value}
 use Rattle.std.proofs.lemmas.Bool.{and_parts}
 use Rattle.std.proofs.lemmas.Int.{ints}
-use Rattle.fb_outputs.specs.declared.outputs.Outputs.{Outputs}
+use Rattle.plc_types.specs.declared.outputs.Outputs.{Outputs}
 use Rattle.trace_columns.specs.Columns.{between, hex_digit_of, hex_of, is_wide, letters_of, number_of, outputs_of, unsigned_of, wide_number_of}
 use Rattle.trace_columns.specs.Fields.{outputs_text}
 use Rattle.trace_columns.proofs.HexLaws.{digit-range}

@@ -6,8 +6,8 @@ use Rattle.std.specs.List.{AllByRecursion}
 use Rattle.std.specs.Option.{ok_or}
 use Rattle.std.proofs.lemmas.Bool.{ltb-false}
 use Rattle.std.proofs.lemmas.List.{length-append, length-replicate}
-use Rattle.axis_state.specs.Names.{is_name}
-use Rattle.fb_outputs.specs.Names.{kind_named}
+use Rattle.plc_types.specs.Names.{is_name}
+use Rattle.plc_types.specs.KindNames.{kind_named}
 use Rattle.line_text.specs.Reading.{each_of}
 use Rattle.line_text.specs.Rules.{broken_unless, in_range}
 use Rattle.machine_words.specs.Names.{axis_named, object_at, task_at}

@@ -5,11 +5,11 @@ use Rattle.std.specs.Prelude.{pos, neg_ℤ}
 use Rattle.std.specs.List.{AllByRecursion}
 use Rattle.std.specs.Option.{option_to_list}
 use Rattle.std.specs.Str.{bytes_eq}
-use Rattle.axis_state.specs.Counts.{IsCount}
-use Rattle.axis_state.specs.declared.definition.AxisRow.{AxisRow}
-use Rattle.cia402_machine.specs.declared.drive.DriveIn.{DriveIn}
-use Rattle.cia402_machine.specs.declared.drive.DriveOut.{DriveOut}
-use Rattle.group_state.specs.declared.state.GroupRow.{GroupRow}
+use Rattle.plc_types.specs.Counts.{IsCount}
+use Rattle.plc_types.specs.declared.axis.AxisRow.{AxisRow}
+use Rattle.plc_types.specs.declared.drive.DriveIn.{DriveIn}
+use Rattle.plc_types.specs.declared.drive.DriveOut.{DriveOut}
+use Rattle.plc_types.specs.declared.group.GroupRow.{GroupRow}
 use Rattle.line_text.specs.Rules.{broken_unless}
 use Rattle.motion_history.specs.Setup.{Setup}
 use Rattle.motion_history.specs.declared.refused.TraceVersion.{TraceVersion}

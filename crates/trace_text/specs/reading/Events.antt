@@ -1,7 +1,7 @@
 -- The calls, cycles and ends of a trace, read from its records: each is the fields after its kind.
 -- This project's profile.
 use Rattle.std.specs.Prelude.{ℕ, ◌-◌, ◌^◌, Result, Ok, Err, List, [], ◌∷◌, slice_get}
-use Rattle.fb_outputs.specs.declared.outputs.Outputs.{Outputs}
+use Rattle.plc_types.specs.declared.outputs.Outputs.{Outputs}
 use Rattle.line_text.specs.Reading.{◌>>=◌}
 use Rattle.line_text.specs.Rules.{broken_unless}
 use Rattle.machine_words.specs.Names.{block_at, task_at}

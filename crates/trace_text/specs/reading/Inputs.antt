@@ -1,14 +1,14 @@
 -- The inputs of a call, read from the fields of its record. This project's profile.
 use Rattle.std.specs.Prelude.{ℕ, ℤ, pos, ◌==◌, if◌then◌else◌, Result, Ok, Err, List, [], ◌∷◌, length}
-use Rattle.command_pool.specs.declared.kind.BlockKind.{BlockKind}
-use Rattle.command_pool.specs.declared.kind.BlockKind.TheVariants.{GearIn, CamIn}
-use Rattle.command_pool.specs.declared.kind.BufferMode.{BufferMode}
-use Rattle.command_pool.specs.declared.kind.BufferMode.TheVariants.{Aborting}
-use Rattle.fb_outputs.specs.Inputs.{takes}
-use Rattle.fb_outputs.specs.Names.{mode_named}
-use Rattle.fb_outputs.specs.declared.inputs.Input.{Input}
-use Rattle.fb_outputs.specs.declared.inputs.Input.TheVariants.{Position, Velocity, Acceleration, Deceleration, Jerk, Mode}
-use Rattle.fb_outputs.specs.declared.inputs.Inputs.{Inputs}
+use Rattle.plc_types.specs.declared.kind.BlockKind.{BlockKind}
+use Rattle.plc_types.specs.declared.kind.BlockKind.TheVariants.{GearIn, CamIn}
+use Rattle.plc_types.specs.declared.kind.BufferMode.{BufferMode}
+use Rattle.plc_types.specs.declared.kind.BufferMode.TheVariants.{Aborting}
+use Rattle.plc_types.specs.Inputs.{takes}
+use Rattle.plc_types.specs.KindNames.{mode_named}
+use Rattle.plc_types.specs.declared.inputs.Input.{Input}
+use Rattle.plc_types.specs.declared.inputs.Input.TheVariants.{Position, Velocity, Acceleration, Deceleration, Jerk, Mode}
+use Rattle.plc_types.specs.declared.inputs.Inputs.{Inputs}
 use Rattle.line_text.specs.Reading.{◌>>=◌, each_of}
 use Rattle.line_text.specs.Rules.{broken_unless}
 use Rattle.machine_words.specs.Names.{axis_named}

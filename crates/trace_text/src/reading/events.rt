@@ -9,10 +9,10 @@ ghost use Rattle.trace_text.specs.reading.InputFields.{fields_of};
 use crate::found::{CycleRoom, FoundCycle, FoundEntry};
 use crate::reading::inputs::{InputFields, inputs_of};
 use crate::reading::rule::{NO_VALUE, are_empty, value};
-use fb_outputs::Outputs;
 use line_text::{LineFault, broken_unless};
 use machine_words::{KnownBlocks, task_at};
 use motion_history::{Builder, TraceVersion};
+use plc_types::Outputs;
 use std::alloc::Global;
 use trace_columns::{outputs_of, unsigned_of, word_of};
 

@@ -7,10 +7,10 @@ ghost use Rattle.trace_text.specs.reading.Inputs as spec;
 use crate::reading::inputs::Followed;
 use crate::reading::item::number;
 use crate::reading::rule::{NO_VALUE, unused, value};
-use command_pool::BlockKind;
 use line_text::LineFault;
 use machine_words::axis_named;
 use motion_history::Builder;
+use plc_types::BlockKind;
 use trace_columns::{halves_of, word_of};
 
 /// What an axis follows that follows none.

@@ -10,10 +10,9 @@ use crate::reading::follow::follow_of;
 use crate::reading::item::number;
 use crate::reading::positions::positions_of;
 use crate::reading::rule::{NO_VALUE, unused, value};
-use command_pool::{BlockKind, BufferMode};
-use fb_outputs::{Input, Inputs, mode_named, takes};
 use line_text::LineFault;
 use motion_history::{BlockDef, Builder};
+use plc_types::{BlockKind, BufferMode, Input, Inputs, mode_named, takes};
 use std::alloc::Global;
 use trace_columns::flag_of;
 

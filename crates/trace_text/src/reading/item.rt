@@ -7,11 +7,10 @@ ghost use Rattle.motion_numbers.specs.declared.TheConstants.{MOST_NUMBER};
 ghost use Rattle.trace_text.specs.reading.Items as spec;
 
 use crate::reading::rule::{NO_VALUE, REFUSED, are_empty, refusal_of, value};
-use axis_state::{Limits, is_name};
-use fb_outputs::kind_named;
 use line_text::{LineFault, broken_unless, in_range};
 use machine_words::{axis_at, group_at, is_whole, object_at, task_at};
 use motion_history::{Builder, MOST_CYCLES, MOST_ENTRIES, TraceVersion};
+use plc_types::{Limits, is_name, kind_named};
 use std::alloc::{AllocError, Global};
 use trace_columns::{flag_of, number_of};
 

@@ -6,10 +6,10 @@ ghost use Rattle.trace_text.specs.reading.Items as spec;
 
 use crate::reading::item::parts_of;
 use crate::reading::rule::{ITEM_RULES, NO_VALUE, are_empty, refusal_of, value};
-use axis_state::is_name;
 use line_text::{LineFault, broken_unless};
 use machine_words::axes_named;
 use motion_history::Builder;
+use plc_types::is_name;
 use std::alloc::Global;
 use trace_columns::point_of;
 

@@ -10,10 +10,10 @@ ghost use Rattle.trace_text.specs.reading.Rules as rules;
 
 use crate::reading::item::{number, parts_of};
 use crate::reading::rule::{NO_VALUE, is_empty};
-use fb_outputs::{Input, takes};
 use line_text::{LineFault, broken_unless};
 use machine_words::{axes_of, positions_from};
 use motion_history::{BlockDef, Builder, MOST_MEMBERS};
+use plc_types::{Input, takes};
 use std::alloc::Global;
 
 /// The positions of a call, where its kind takes them.

@@ -9,11 +9,9 @@ ghost use Rattle.trace_text.specs.reading.Rows as spec;
 use crate::drive_end::DriveEndRow;
 use crate::reading::name::{is_axis_name, is_group_name};
 use crate::reading::rule::{NO_VALUE, are_empty, is_empty, value};
-use axis_state::{AxisRow, AxisState, DriveIn, DriveOut};
-use cia402_machine::CYCLIC_SYNCHRONOUS_POSITION;
-use group_state::GroupRow;
 use line_text::{LineFault, broken_unless};
 use motion_history::{Builder, TraceVersion};
+use plc_types::{AxisRow, AxisState, CYCLIC_SYNCHRONOUS_POSITION, DriveIn, DriveOut, GroupRow};
 use trace_columns::{
     axis_state_of, drive_state_of, flag_of, group_state_of, hex_of, int_of, small_int_of,
     unsigned_of, wide_number_of, word_of,

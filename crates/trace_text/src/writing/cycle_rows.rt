@@ -9,11 +9,10 @@ ghost use Rattle.trace_text.specs.Records as spec;
 ghost use Rattle.trace_text.specs.Trace.{numbered, text_of};
 
 use crate::records::{group_name, write_record, write_whole};
-use axis_state::{AxisDef, AxisRow};
 use csv::Writer;
-use group_state::GroupRow;
 use itoa::Buffer;
 use motion_history::{Config, OutOfMemory, TraceVersion, axis_name, name_text};
+use plc_types::{AxisDef, AxisRow, GroupRow};
 use std::io::Write;
 use trace_columns::{axis_state_text, flag_text, group_state_text, hex_text};
 
@@ -44,7 +43,7 @@ fn is_just_below(lo: i64, inc: i64, counted: i128) -> bool
 }
 
 /// The place that the drive of an axis reports in a row, in internal units.
-#[tactic(auto, unfolding(axis_state::specs::Counts::place_of))]
+#[tactic(auto, unfolding(plc_types::specs::Counts::place_of))]
 pub fn reported_place(axis: &AxisDef, row: &AxisRow) -> i128
     ensures { result ≡ spec.reported_place axis.now row.now }
 {

@@ -5,9 +5,9 @@ ghost use Rattle.trace_text.specs.Words as spec;
 ghost use Rattle.trace_text.specs.Records as records;
 
 use crate::command::Command;
-use fb_outputs::{BlockKind, Input, takes};
 use itoa::Buffer;
 use motion_history::TraceVersion;
+use plc_types::{BlockKind, Input, takes};
 
 /// The version of a trace.
 #[tactic(auto, unfolding(crate::specs::Words::version_text))]

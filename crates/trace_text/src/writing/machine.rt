@@ -12,10 +12,10 @@ use crate::command::Command;
 use crate::writing::machine_record::{
     write_axis, write_block, write_group, write_header, write_room, write_table, write_task,
 };
-use axis_state::{AxisDef, Name};
 use cam_table::CamTable;
 use csv::Writer;
 use motion_history::{BlockDef, Config, GroupDef, OutOfMemory, TraceVersion};
+use plc_types::{AxisDef, Name};
 use std::alloc::Global;
 use std::io::Write;
 

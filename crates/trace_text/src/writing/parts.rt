@@ -6,10 +6,9 @@ ghost use Rattle.std.specs.Fmt.{signed_decimal};
 ghost use Rattle.motion_history.specs.Calls as calls;
 ghost use Rattle.trace_text.specs.Records as spec;
 
-use command_pool::BlockKind;
-use fb_outputs::{Input, Inputs, takes};
 use itoa::Buffer;
 use motion_history::{BlockDef, Config, GroupDef, MOST_MEMBERS, axis_name, name_text};
+use plc_types::{BlockKind, Input, Inputs, takes};
 use std::alloc::{AllocError, Global};
 
 // Puts a part after this many others, with a semicolon between.

@@ -1,7 +1,7 @@
 -- What the kernel and the drives keep is read back.
 use Rattle.std.specs.Prelude.{List, All}
 use Rattle.std.proofs.Common.{subst}
-use Rattle.axis_state.specs.Counts.{IsCount}
+use Rattle.plc_types.specs.Counts.{IsCount}
 use Rattle.drive_sim.specs.Sim.{DriveSim}
 use Rattle.bench_job.proofs.HeldLaws.{read-again}
 use Rattle.bench_job.proofs.bench.trace_is_read_again.Goals as goal

@@ -2,7 +2,7 @@
 use Rattle.std.proofs.Common.{◌∙◌, List, ap, length, subst, sym}
 use Rattle.std.specs.List.{All}
 use Rattle.drive_sim.specs.Sim.{DriveSim}
-use Rattle.axis_state.specs.declared.definition.AxisDef.{AxisDef}
+use Rattle.plc_types.specs.declared.axis.AxisDef.{AxisDef}
 use Rattle.machine_drives.specs.Drives.{CanOpen}
 use Rattle.motion_history.specs.declared.drives.DriveDef.{DriveDef}
 use Rattle.hot_standby.specs.Primaries.{Primary}

@@ -2,7 +2,7 @@
 use Rattle.std.specs.Prelude.{Ok, Err, List, ◌∷◌, ◌++◌, []}
 use Rattle.std.proofs.Common.{◌∙◌, refl, ap}
 use Rattle.std.proofs.lemmas.Result.{err_from_is_err_and}
-use Rattle.fb_outputs.specs.declared.outputs.Outputs.{Outputs}
+use Rattle.plc_types.specs.declared.outputs.Outputs.{Outputs}
 use Rattle.motion_history.specs.Entries.{Entry, call}
 use Rattle.motion_history.specs.Setup.{Setup}
 use Rattle.hot_standby.specs.Primaries.{Primary}

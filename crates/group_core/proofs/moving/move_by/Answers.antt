@@ -2,8 +2,9 @@
 use Rattle.std.proofs.Common.{◌≡◌, ℤ, pos, arith}
 use Rattle.std.proofs.lemmas.Int.{ints}
 use Rattle.group_core.specs.Tracks.{IsMotionKept}
-use Rattle.kin_core.specs.Admissible.{AreLimits, IsKept}
-use Rattle.kin_core.specs.declared.limits.Limits.{Limits}
+use Rattle.plc_types.specs.Limits.{AreLimits}
+use Rattle.kin_core.specs.Admissible.{IsKept}
+use Rattle.plc_types.specs.declared.limits.Limits.{Limits}
 use Rattle.group_core.proofs.moving.move_by.Goals as goal
 
 motion-kept : (l : Limits) (b n x y : ℤ) → AreLimits l → l.lo ≡ pos 0 → IsKept l b n → x ≡ b → y ≡ n →

@@ -1,7 +1,7 @@
 -- The place after the step is one of the path.
 use Rattle.std.proofs.Common.{◌≡◌, arith, ap}
 use Rattle.std.proofs.lemmas.Int.{ints}
-use Rattle.kin_core.specs.declared.limits.Limits.{Limits}
+use Rattle.plc_types.specs.declared.limits.Limits.{Limits}
 use Rattle.group_core.proofs.moving.step_along.Goals as goal
 
 pub stand_on-requires-clause-to_the_target : goal.stand_on-requires-clause-to_the_target

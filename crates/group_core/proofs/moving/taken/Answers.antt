@@ -2,7 +2,7 @@
 use Rattle.std.proofs.Common.{◌≡◌, ℤ, arith}
 use Rattle.std.proofs.lemmas.Int.{ints}
 use Rattle.kin_core.specs.Admissible.{IsKept}
-use Rattle.kin_core.specs.declared.limits.Limits.{Limits}
+use Rattle.plc_types.specs.declared.limits.Limits.{Limits}
 use Rattle.group_core.proofs.moving.taken.Goals as goal
 
 kept-as : (l : Limits) (b n x y : ℤ) → b ≡ x → n ≡ y → IsKept l b n → IsKept l x y

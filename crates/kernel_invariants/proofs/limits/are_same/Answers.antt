@@ -3,7 +3,7 @@ use Rattle.std.proofs.Common.{◌≡◌, true, refl, sym, ◌∙◌, int_eq}
 use Rattle.std.specs.Prelude.{◌&&◌}
 use Rattle.std.proofs.lemmas.Bool.Decides.{Decides-int_eq}
 use Rattle.std.proofs.lemmas.Bool.{and_parts}
-use Rattle.kin_core.specs.declared.limits.Limits.{Limits}
+use Rattle.plc_types.specs.declared.limits.Limits.{Limits}
 use Rattle.kernel_invariants.proofs.limits.are_same.Goals as goal
 
 same : (a b : Limits) → (int_eq a.lo b.lo && (int_eq a.hi b.hi && (int_eq a.vmax b.vmax && (int_eq a.amax b.amax && int_eq a.dmax b.dmax)))) ≡ true → a ≡ b

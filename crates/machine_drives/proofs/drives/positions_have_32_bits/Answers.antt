@@ -2,7 +2,7 @@
 use Rattle.std.proofs.Common.{◌∙◌, ap, arith, subst, slice_index_or, inl, inr}
 use Rattle.std.proofs.lemmas.Bool.{cases_lt}
 use Rattle.std.proofs.lemmas.List.{get_or_default}
-use Rattle.axis_state.specs.Counts.{IsCount}
+use Rattle.plc_types.specs.Counts.{IsCount}
 use Rattle.drive_sim.specs.Sim.{DriveSim}
 use Rattle.machine_drives.proofs.drives.positions_have_32_bits.Goals as goal
 

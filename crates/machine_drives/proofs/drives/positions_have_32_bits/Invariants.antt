@@ -1,5 +1,5 @@
 use Rattle.std.proofs.Common.{ℕ, ◌<◌, slice_index_or}
-use Rattle.axis_state.specs.Counts.{IsCount}
+use Rattle.plc_types.specs.Counts.{IsCount}
 use Rattle.drive_sim.specs.Sim.{DriveSim}
 use Rattle.machine_drives.proofs.drives.positions_have_32_bits.Given as goal
 

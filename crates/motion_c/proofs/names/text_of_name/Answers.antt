@@ -1,6 +1,6 @@
 -- A name has at most sixteen bytes.
 use Rattle.std.proofs.Common.{ap, arith, length}
-use Rattle.axis_state.proofs.NameLemmas.{is_name-short}
+use Rattle.plc_types.proofs.NameLemmas.{is_name-short}
 use Rattle.motion_c.proofs.names.text_of_name.Goals as goal
 
 pub text_of-requires : goal.text_of-requires

@@ -1,7 +1,7 @@
 -- One axis after another goes through the cycle.
 use Rattle.std.proofs.Common.{◌≡◌, ◌∙◌, ap, sym, arith, length, map, take, ◌+◌, ◌++◌, ◌∷◌, []}
 use Rattle.std.proofs.lemmas.List.{length-set, map-append, take_all, take_more_set}
-use Rattle.axis_state.specs.declared.definition.AxisRow.{AxisRow}
+use Rattle.plc_types.specs.declared.axis.AxisRow.{AxisRow}
 use Rattle.motion_history.specs.Entries.{HistoryState}
 use Rattle.motion_kernel.specs.looks.Around.{around_of}
 use Rattle.motion_kernel.specs.cycles.AxisCycles.{AxesCycled, after_axis_cycle, axes_cycled, core_in_cycle, row_in_cycle}

@@ -1,5 +1,5 @@
 use Rattle.std.proofs.Common.{◌≡◌, [], length, map, take}
-use Rattle.axis_state.specs.declared.definition.AxisRow.{AxisRow}
+use Rattle.plc_types.specs.declared.axis.AxisRow.{AxisRow}
 use Rattle.motion_kernel.specs.looks.Around.{around_of}
 use Rattle.motion_kernel.specs.cycles.AxisCycles as spec
 use Rattle.motion_kernel.specs.kept.Machine.{IsSized}

@@ -1,6 +1,6 @@
 -- The instance has nothing elsewhere.
 use Rattle.std.proofs.Common.{◌≡◌, ◌∙◌, arith, sym, true, false}
-use Rattle.command_pool.specs.Kinds.{acts_on_group}
+use Rattle.plc_types.specs.Kinds.{acts_on_group}
 use Rattle.motion_kernel.specs.Seen.{machine_of}
 use Rattle.motion_kernel.proofs.owners.Alone.{axis_freed, group_freed, where_it_acts}
 use Rattle.motion_kernel.proofs.detaching.detach.Goals as goal

@@ -1,6 +1,6 @@
 use Rattle.std.proofs.Common.{ℕ, ◌<◌, slice_index_or}
-use Rattle.axis_state.specs.Counts.{IsCount}
-use Rattle.cia402_machine.specs.declared.drive.DriveIn.{DriveIn}
+use Rattle.plc_types.specs.Counts.{IsCount}
+use Rattle.plc_types.specs.declared.drive.DriveIn.{DriveIn}
 use Rattle.motion_kernel.proofs.drive_answers.counts_have_32_bits.Given as goal
 
 abbrev pub invariant-loop-input : goal.invariant-loop-input

@@ -1,7 +1,7 @@
 -- The groups, then the axes, then the groups again.
 use Rattle.std.proofs.Common.{◌≡◌, ◌∙◌, ap, length, map}
 use Rattle.std.specs.Prelude.{refl}
-use Rattle.axis_state.specs.declared.definition.AxisRow.{AxisRow}
+use Rattle.plc_types.specs.declared.axis.AxisRow.{AxisRow}
 use Rattle.motion_kernel.specs.cycles.Cycles.{Cycled, cycled}
 use Rattle.motion_kernel.specs.cycles.AxisCycles.{axes_cycled}
 use Rattle.motion_kernel.specs.cycles.GroupResets.{groups_reset}

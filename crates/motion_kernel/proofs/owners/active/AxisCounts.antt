@@ -12,8 +12,8 @@ use Rattle.axis_core.specs.declared.reason.Reason as axis_reason
 use Rattle.buffer_modes.specs.Owners.{owner_count, owner_by}
 use Rattle.buffer_modes.specs.Queue.{admitted, behind, is_aborting, is_active_at_once}
 use Rattle.command_pool.specs.Waiting.{last_of}
-use Rattle.command_pool.specs.declared.kind.BlockKind.{BlockKind}
-use Rattle.command_pool.specs.declared.kind.BlockKind.TheVariants as kind
+use Rattle.plc_types.specs.declared.kind.BlockKind.{BlockKind}
+use Rattle.plc_types.specs.declared.kind.BlockKind.TheVariants as kind
 use Rattle.command_pool.specs.declared.wanted.Wanted.{Wanted}
 use Rattle.fb_outputs.specs.InstanceState.{InstanceState}
 use Rattle.motion_kernel.specs.calls.Asking.{is_done_at_once}

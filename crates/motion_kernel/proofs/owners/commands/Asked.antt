@@ -8,8 +8,8 @@ use Rattle.axis_core.specs.Owners as axis
 use Rattle.axis_core.specs.Owners.{owner_brought}
 use Rattle.axis_core.specs.declared.reason.Reason as axis_reasons
 use Rattle.buffer_modes.specs.Owners.{owner_count}
-use Rattle.command_pool.specs.declared.kind.BlockKind.{BlockKind}
-use Rattle.command_pool.specs.declared.kind.BlockKind.TheVariants as kind
+use Rattle.plc_types.specs.declared.kind.BlockKind.{BlockKind}
+use Rattle.plc_types.specs.declared.kind.BlockKind.TheVariants as kind
 use Rattle.command_pool.specs.declared.wanted.Wanted.{Wanted}
 use Rattle.fb_outputs.specs.InstanceState.{InstanceState}
 use Rattle.group_core.specs.Owners as group

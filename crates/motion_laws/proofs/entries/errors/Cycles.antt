@@ -8,7 +8,7 @@ use Rattle.axis_core.specs.Drives.{answer_error_of, has_fault, new_error_of}
 use Rattle.axis_core.specs.Shown as axis_shown
 use Rattle.axis_core.specs.declared.axis.Axis.{Axis}
 use Rattle.axis_state.specs.States.{is_error_stop}
-use Rattle.cia402_machine.specs.declared.drive.DriveIn.{DriveIn}
+use Rattle.plc_types.specs.declared.drive.DriveIn.{DriveIn}
 use Rattle.group_core.specs.Cores.{Core}
 use Rattle.group_core.specs.Shown as group_shown
 use Rattle.motion_history.specs.Setup.{Setup}

@@ -2,7 +2,7 @@
 -- for: machines_can_stand, states_change_by_their_events, rows_show_the_machine and others
 use Rattle.std.specs.Prelude.{◌≡◌, refl, ℕ, ◌<◌, length, slice_get}
 use Rattle.std.proofs.Common.{arith, ap, subst, ◌∙◌}
-use Rattle.fb_outputs.specs.declared.inputs.Inputs.{Inputs}
+use Rattle.plc_types.specs.declared.inputs.Inputs.{Inputs}
 use Rattle.group_core.specs.Calls.{commanded}
 use Rattle.group_core.specs.Cores.{Core}
 use Rattle.motion_history.specs.Calls.{IsCall}

@@ -1,8 +1,8 @@
 -- The states change by their events in every entry of a past.
 -- for: machines_can_stand, states_change_by_their_events, rows_show_the_machine and others
 use Rattle.std.specs.Prelude.{refl, ℕ, ◌+◌, List, [], ◌∷◌, ◌++◌}
-use Rattle.fb_outputs.specs.declared.inputs.Inputs.{Inputs}
-use Rattle.fb_outputs.specs.declared.outputs.Outputs.{Outputs}
+use Rattle.plc_types.specs.declared.inputs.Inputs.{Inputs}
+use Rattle.plc_types.specs.declared.outputs.Outputs.{Outputs}
 use Rattle.motion_history.specs.Calls.{IsCall}
 use Rattle.motion_history.specs.Entries.{Entry, call, cycle, cycle_count, end_of}
 use Rattle.motion_history.specs.Setup.{Setup, IsSetup}

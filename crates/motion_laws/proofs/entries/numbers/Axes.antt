@@ -17,20 +17,20 @@ use Rattle.axis_core.specs.declared.look.AxisLook.{AxisLook}
 use Rattle.axis_state.specs.Diagram.{next_of}
 use Rattle.axis_state.specs.States.{is_error_stop, is_stopping}
 use Rattle.axis_state.specs.declared.diagram.AxisEvent.TheVariants.{StopReleased}
-use Rattle.axis_state.specs.declared.state.AxisState.{AxisState}
-use Rattle.axis_state.specs.declared.state.AxisState.TheVariants as state
+use Rattle.plc_types.specs.declared.axis_state.AxisState.{AxisState}
+use Rattle.plc_types.specs.declared.axis_state.AxisState.TheVariants as state
 use Rattle.buffer_modes.specs.Owners.{owner_count, owner_by}
 use Rattle.buffer_modes.specs.Queue.{active_note, end_notes}
 use Rattle.buffer_modes.specs.declared.reset.PendingReset.{PendingReset}
-use Rattle.cia402_machine.specs.declared.drive.DriveIn.{DriveIn}
+use Rattle.plc_types.specs.declared.drive.DriveIn.{DriveIn}
 use Rattle.command_changes.proofs.axis.Cycles.{advance_stays}
 use Rattle.command_changes.specs.Axis.{command_state_of}
 use Rattle.command_core.specs.CommandState.{CommandState}
 use Rattle.command_pool.specs.Waiting.{told_to}
 use Rattle.command_pool.specs.declared.ending.Finish.{Finish}
 use Rattle.command_pool.specs.declared.ending.Finish.TheVariants as finish
-use Rattle.command_pool.specs.declared.kind.BlockKind.{BlockKind}
-use Rattle.command_pool.specs.declared.kind.BlockKind.TheVariants as kind
+use Rattle.plc_types.specs.declared.kind.BlockKind.{BlockKind}
+use Rattle.plc_types.specs.declared.kind.BlockKind.TheVariants as kind
 use Rattle.command_pool.specs.declared.wanted.Wanted.{Wanted}
 use Rattle.motion_kernel.proofs.Sizes.{by_if}
 use Rattle.motion_numbers.specs.Ranges.{is_outside}

@@ -13,8 +13,8 @@ use Rattle.command_core.specs.CommandState.{CommandState}
 use Rattle.command_pool.specs.Waiting.{told_to}
 use Rattle.command_pool.specs.declared.ending.Finish.{Finish}
 use Rattle.command_pool.specs.declared.ending.Finish.TheVariants as finish
-use Rattle.command_pool.specs.declared.kind.BlockKind.{BlockKind}
-use Rattle.command_pool.specs.declared.kind.BlockKind.TheVariants as kind
+use Rattle.plc_types.specs.declared.kind.BlockKind.{BlockKind}
+use Rattle.plc_types.specs.declared.kind.BlockKind.TheVariants as kind
 use Rattle.command_pool.specs.declared.wanted.Wanted.{Wanted}
 use Rattle.group_core.specs.Calls.{admitted_by, asked_in, commanded, commanded_by, line_joined, powered_off, queue_in, queued, waits_for_rest}
 use Rattle.group_core.specs.Cores.{Core, ended, ended_by, failed, settled, taken_over}
@@ -30,8 +30,8 @@ use Rattle.group_core.specs.declared.group.Motion.{Motion}
 use Rattle.group_core.specs.declared.look.GroupLook.{GroupLook}
 use Rattle.group_core.specs.declared.reason.Reason.{Reason}
 use Rattle.group_state.specs.Diagram.{next_of}
-use Rattle.group_state.specs.declared.state.GroupState.{GroupState}
-use Rattle.group_state.specs.declared.state.GroupState.TheVariants as state
+use Rattle.plc_types.specs.declared.group.GroupState.{GroupState}
+use Rattle.plc_types.specs.declared.group.GroupState.TheVariants as state
 use Rattle.motion_kernel.proofs.Sizes.{by_if}
 use Rattle.motion_laws.proofs.entries.numbers.Notes.{AllTell, Nothing, Shows, active_plain, all_told, done_plain, more, plain, untold, weaker}
 

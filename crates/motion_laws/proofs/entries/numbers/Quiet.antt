@@ -17,10 +17,10 @@ use Rattle.command_core.specs.Changes.{Change, all_changed, awaits, changed, end
 use Rattle.command_core.specs.CommandState.{CommandState, queue_of}
 use Rattle.command_pool.specs.Waiting.{last_of}
 use Rattle.command_pool.specs.declared.ending.Finish.TheVariants as finish
-use Rattle.command_pool.specs.declared.kind.BlockKind.{BlockKind}
-use Rattle.command_pool.specs.declared.kind.BlockKind.TheVariants as kind
+use Rattle.plc_types.specs.declared.kind.BlockKind.{BlockKind}
+use Rattle.plc_types.specs.declared.kind.BlockKind.TheVariants as kind
 use Rattle.command_pool.specs.declared.wanted.Wanted.{Wanted}
-use Rattle.fb_outputs.specs.declared.inputs.Inputs.{Inputs}
+use Rattle.plc_types.specs.declared.inputs.Inputs.{Inputs}
 use Rattle.group_core.specs.Calls as group_calls
 use Rattle.group_core.specs.Cores as groups
 use Rattle.group_core.specs.Refusals as group_refusals

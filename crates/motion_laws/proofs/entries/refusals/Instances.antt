@@ -6,15 +6,15 @@ use Rattle.std.proofs.Common.{ap, sym, subst, ◌∙◌}
 use Rattle.axis_core.specs.Calls.{axis_without_owner}
 use Rattle.command_pool.specs.Waiting.{detached}
 use Rattle.command_pool.specs.declared.ending.Finish.TheVariants as finish
-use Rattle.command_pool.specs.declared.kind.BlockKind.{BlockKind}
+use Rattle.plc_types.specs.declared.kind.BlockKind.{BlockKind}
 use Rattle.fb_outputs.specs.InstanceState.{InstanceState}
 use Rattle.fb_outputs.specs.Steps as instance
 use Rattle.fb_outputs.specs.Steps.{edge_of, is_power, is_stop, nothing, outputs_by, outputs_of, reached_after}
-use Rattle.fb_outputs.specs.declared.inputs.Inputs.{Inputs}
+use Rattle.plc_types.specs.declared.inputs.Inputs.{Inputs}
 use Rattle.fb_outputs.specs.declared.instance.Edge.TheVariants as edge
 use Rattle.fb_outputs.specs.declared.instance.Progress.{Progress}
 use Rattle.fb_outputs.specs.declared.instance.Progress.TheVariants.{Waiting, Active, Ended}
-use Rattle.fb_outputs.specs.declared.outputs.Outputs.{Outputs}
+use Rattle.plc_types.specs.declared.outputs.Outputs.{Outputs}
 use Rattle.group_core.specs.Calls.{group_without}
 use Rattle.motion_kernel.specs.calls.Asking.{is_done_at_once}
 use Rattle.motion_kernel.specs.calls.Calls.{after_reply, answered_instance, with_answer, with_axis_core, with_execute, with_group_core, without_owner}

@@ -10,13 +10,13 @@ use Rattle.axis_core.specs.declared.reason.Reason as axis_reason
 use Rattle.command_pool.specs.declared.ending.Finish.{Finish}
 use Rattle.command_pool.specs.declared.ending.Finish.TheVariants as finish
 use Rattle.command_pool.specs.declared.ending.Refusal.{Refusal}
-use Rattle.command_pool.specs.declared.kind.BlockKind.{BlockKind}
+use Rattle.plc_types.specs.declared.kind.BlockKind.{BlockKind}
 use Rattle.command_pool.specs.declared.notes.Note.{Note}
 use Rattle.command_pool.specs.declared.wanted.Wanted.{Wanted}
 use Rattle.fb_outputs.specs.InstanceState.{InstanceState}
 use Rattle.fb_outputs.specs.Replies.{Happening, HasNumber, IsNumbered, IsReply, after_all, is_error_number, may_hold}
 use Rattle.fb_outputs.specs.Steps.{finished, opened, outputs_of, started}
-use Rattle.fb_outputs.specs.declared.inputs.Inputs.{Inputs}
+use Rattle.plc_types.specs.declared.inputs.Inputs.{Inputs}
 use Rattle.group_core.specs.Calls as group_calls
 use Rattle.group_core.specs.Calls.{commanded, powered_off}
 use Rattle.group_core.specs.Cores as group_cores

@@ -5,14 +5,14 @@ use Rattle.std.specs.List.{AllByRecursion}
 use Rattle.std.proofs.Common.{ap, sym, subst, ◌∙◌}
 use Rattle.axis_core.specs.Cycles.{core_after_cycle}
 use Rattle.axis_core.specs.declared.axis.Axis.{Axis}
-use Rattle.axis_state.specs.declared.definition.AxisDef.{AxisDef}
-use Rattle.cia402_machine.specs.declared.drive.DriveIn.{DriveIn}
-use Rattle.command_pool.specs.declared.kind.BlockKind.{BlockKind}
+use Rattle.plc_types.specs.declared.axis.AxisDef.{AxisDef}
+use Rattle.plc_types.specs.declared.drive.DriveIn.{DriveIn}
+use Rattle.plc_types.specs.declared.kind.BlockKind.{BlockKind}
 use Rattle.fb_outputs.specs.InstanceState.{InstanceState}
 use Rattle.fb_outputs.specs.Replies as replies
 use Rattle.fb_outputs.specs.Replies.{Happening, IsNumbered, after_all, happened}
 use Rattle.fb_outputs.specs.Steps.{opened, started, with_reached}
-use Rattle.fb_outputs.specs.declared.inputs.Inputs.{Inputs}
+use Rattle.plc_types.specs.declared.inputs.Inputs.{Inputs}
 use Rattle.group_core.specs.Cycles as group_cycles
 use Rattle.motion_history.specs.Setup.{Setup}
 use Rattle.motion_history.specs.declared.config.BlockDef.{BlockDef}

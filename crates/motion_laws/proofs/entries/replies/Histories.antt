@@ -8,8 +8,8 @@ use Rattle.fb_outputs.specs.Replies as replies
 use Rattle.fb_outputs.specs.Replies.{Happening, IsReply, after_all, is_error_number, may_hold}
 use Rattle.fb_outputs.specs.Steps as instance
 use Rattle.fb_outputs.specs.Steps.{finished, is_stop, opened, outputs_of, started, with_reached}
-use Rattle.fb_outputs.specs.declared.inputs.Inputs.{Inputs}
-use Rattle.fb_outputs.specs.declared.outputs.Outputs.{Outputs}
+use Rattle.plc_types.specs.declared.inputs.Inputs.{Inputs}
+use Rattle.plc_types.specs.declared.outputs.Outputs.{Outputs}
 use Rattle.motion_history.specs.Entries.{Entry, call, cycle, end_of}
 use Rattle.motion_history.specs.Setup.{Setup, IsSetup}
 use Rattle.motion_history.specs.declared.config.BlockDef.{BlockDef}

@@ -8,10 +8,10 @@ use Rattle.command_pool.specs.declared.ending.Finish.TheVariants as finish
 use Rattle.fb_outputs.specs.InstanceState.{InstanceState}
 use Rattle.fb_outputs.specs.Steps as instance
 use Rattle.fb_outputs.specs.Steps.{is_power, is_stop, outputs_by, outputs_of, result_of}
-use Rattle.fb_outputs.specs.declared.inputs.Inputs.{Inputs}
+use Rattle.plc_types.specs.declared.inputs.Inputs.{Inputs}
 use Rattle.fb_outputs.specs.declared.instance.Progress.{Progress}
 use Rattle.fb_outputs.specs.declared.instance.Progress.TheVariants.{Active, Ended, Idle, Waiting}
-use Rattle.fb_outputs.specs.declared.outputs.Outputs.{Outputs}
+use Rattle.plc_types.specs.declared.outputs.Outputs.{Outputs}
 use Rattle.motion_history.specs.Entries.{Entry, call}
 use Rattle.motion_history.specs.Setup.{IsSetup, Setup}
 use Rattle.motion_history.specs.declared.config.BlockDef.{BlockDef}

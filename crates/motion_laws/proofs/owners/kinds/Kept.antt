@@ -5,7 +5,7 @@ use Rattle.std.specs.List.{AllByRecursion}
 use Rattle.std.proofs.Common.{sym, subst, ◌∙◌, inl, inr}
 use Rattle.std.proofs.lemmas.Bool.{cases_Bool}
 use Rattle.axis_core.specs.Cycles.{axis_at_opening}
-use Rattle.axis_state.specs.declared.definition.AxisDef.{AxisDef}
+use Rattle.plc_types.specs.declared.axis.AxisDef.{AxisDef}
 use Rattle.buffer_modes.specs.Resets.{reset_owner}
 use Rattle.command_core.specs.Changes.{Change, all_changed}
 use Rattle.command_core.specs.CommandState.{CommandState}

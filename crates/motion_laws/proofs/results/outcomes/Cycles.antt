@@ -4,7 +4,7 @@ use Rattle.std.specs.Prelude.{◌≡◌, ◌≢◌, refl, ℕ, zero, suc, ◌<�
 use Rattle.std.proofs.Common.{arith, sym, subst, ◌∙◌, inl, inr}
 use Rattle.std.proofs.lemmas.Bool.{cases_Bool, eqb-true}
 use Rattle.axis_core.specs.Cycles.{core_after_cycle}
-use Rattle.cia402_machine.specs.declared.drive.DriveIn.{DriveIn}
+use Rattle.plc_types.specs.declared.drive.DriveIn.{DriveIn}
 use Rattle.command_changes.specs.Axis as axis
 use Rattle.command_changes.specs.Group as group
 use Rattle.command_core.specs.Brought.{brought}

@@ -7,8 +7,8 @@ use Rattle.buffer_modes.specs.Owners.{owner_count}
 use Rattle.command_changes.specs.Group as group
 use Rattle.command_core.specs.CommandState.{CommandState, active_of}
 use Rattle.command_pool.specs.declared.ending.Finish.TheVariants as finish
-use Rattle.fb_outputs.specs.declared.inputs.Inputs.{Inputs}
-use Rattle.fb_outputs.specs.declared.outputs.Outputs.{Outputs}
+use Rattle.plc_types.specs.declared.inputs.Inputs.{Inputs}
+use Rattle.plc_types.specs.declared.outputs.Outputs.{Outputs}
 use Rattle.motion_history.specs.Entries.{Entry, call, cycle, end_of}
 use Rattle.motion_history.specs.Setup.{Setup}
 use Rattle.motion_kernel.specs.Histories.{inputs_of}

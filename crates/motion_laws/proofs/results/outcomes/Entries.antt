@@ -3,7 +3,7 @@
 use Rattle.std.specs.Prelude.{◌≡◌, refl, ℕ, ◌<◌, Bool, true, false, ◌&&◌, not, nat_eq, if◌then◌else◌, Some, length, slice_get}
 use Rattle.std.proofs.Common.{arith, ap, sym, subst, ◌∙◌, inl, inr}
 use Rattle.std.proofs.lemmas.Bool.{cases_Bool, eqb-true}
-use Rattle.command_pool.specs.Kinds.{acts_on_group}
+use Rattle.plc_types.specs.Kinds.{acts_on_group}
 use Rattle.fb_outputs.specs.Steps.{is_power}
 use Rattle.motion_history.specs.Entries.{Entry, call, cycle, end_of}
 use Rattle.motion_history.specs.Setup.{Setup}

@@ -11,12 +11,12 @@ use Rattle.command_changes.specs.Group as group
 use Rattle.command_core.specs.Brought.{brought}
 use Rattle.command_core.specs.Changes.{Change, all_changed}
 use Rattle.command_core.specs.CommandState.{active_of, owns}
-use Rattle.command_pool.specs.Kinds.{acts_on_group}
-use Rattle.command_pool.specs.declared.kind.BlockKind.TheVariants as kind
+use Rattle.plc_types.specs.Kinds.{acts_on_group}
+use Rattle.plc_types.specs.declared.kind.BlockKind.TheVariants as kind
 use Rattle.fb_outputs.specs.InstanceState.{InstanceState}
 use Rattle.fb_outputs.specs.Steps as instance
-use Rattle.fb_outputs.specs.declared.inputs.Inputs.{Inputs}
-use Rattle.fb_outputs.specs.declared.outputs.Outputs.{Outputs}
+use Rattle.plc_types.specs.declared.inputs.Inputs.{Inputs}
+use Rattle.plc_types.specs.declared.outputs.Outputs.{Outputs}
 use Rattle.group_core.specs.Calls as group_calls
 use Rattle.group_core.specs.Calls.{commanded, powered_off}
 use Rattle.group_core.specs.Refusals as group_refusals

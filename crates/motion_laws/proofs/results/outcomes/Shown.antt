@@ -2,13 +2,13 @@
 -- for: replies_show_commands, entries_make_outcomes, results_are_told and others
 use Rattle.std.specs.Prelude.{◌≡◌, ℕ, true, List, [], slice_get}
 use Rattle.std.proofs.Common.{arith, ap, sym, ◌∙◌}
-use Rattle.cia402_machine.specs.declared.drive.DriveIn.{DriveIn}
-use Rattle.axis_state.specs.declared.definition.AxisRow.{AxisRow}
+use Rattle.plc_types.specs.declared.drive.DriveIn.{DriveIn}
+use Rattle.plc_types.specs.declared.axis.AxisRow.{AxisRow}
 use Rattle.command_core.specs.Brought.{brought}
 use Rattle.command_core.specs.Changes.{all_changed}
 use Rattle.command_core.specs.CommandState.{active_of, owns}
 use Rattle.command_core.specs.Ends.{end_among}
-use Rattle.group_state.specs.declared.state.GroupRow.{GroupRow}
+use Rattle.plc_types.specs.declared.group.GroupRow.{GroupRow}
 use Rattle.motion_history.specs.Entries.{cycle}
 use Rattle.motion_history.specs.Setup.{Setup}
 use Rattle.motion_kernel.specs.Histories.{inputs_of}

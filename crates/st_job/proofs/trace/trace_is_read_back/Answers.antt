@@ -1,7 +1,7 @@
 -- What the kernel and the drives keep is read back.
 use Rattle.std.specs.Prelude.{List, All}
 use Rattle.std.proofs.Common.{subst}
-use Rattle.axis_state.specs.Counts.{IsCount}
+use Rattle.plc_types.specs.Counts.{IsCount}
 use Rattle.drive_sim.specs.Sim.{DriveSim}
 use Rattle.st_job.proofs.TraceLaws.{read-again}
 use Rattle.st_job.proofs.trace.trace_is_read_back.Goals as goal

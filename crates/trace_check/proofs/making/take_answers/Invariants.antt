@@ -1,6 +1,6 @@
 -- The answers so far.
 use Rattle.std.proofs.Common.{◌≡◌, map, take}
-use Rattle.axis_state.specs.declared.definition.AxisRow.{AxisRow}
+use Rattle.plc_types.specs.declared.axis.AxisRow.{AxisRow}
 use Rattle.trace_check.proofs.making.take_answers.Given as goal
 
 abbrev pub invariant-loop-i : goal.invariant-loop-i

@@ -1,7 +1,7 @@
 -- A cycle is one more entry, and no task has made an entry since.
 use Rattle.std.proofs.Common.{◌∙◌, ap, ◌+◌, ◌++◌, ◌∷◌, [], map}
 use Rattle.std.specs.Prelude.{refl}
-use Rattle.axis_state.specs.declared.definition.AxisRow.{AxisRow}
+use Rattle.plc_types.specs.declared.axis.AxisRow.{AxisRow}
 use Rattle.motion_history.specs.Entries.{cycle, cycles_of}
 use Rattle.motion_kernel.specs.Segments.{SegmentedState, machine_now}
 use Rattle.motion_kernel.specs.cycles.Cycles.{cycled}

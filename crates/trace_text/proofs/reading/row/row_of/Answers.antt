@@ -1,7 +1,7 @@
 -- The fields by their places.
 use Rattle.std.specs.Prelude.{ℕ, ℤ, List, Option}
 use Rattle.std.proofs.Common.{subst, sym}
-use Rattle.axis_state.specs.declared.definition.AxisRow.{AxisRow}
+use Rattle.plc_types.specs.declared.axis.AxisRow.{AxisRow}
 use Rattle.line_text.specs.Reading.{Gives}
 use Rattle.trace_text.specs.reading.Rows.{row_meaning}
 use Rattle.trace_text.proofs.read.Eleven.{texts-eleven}

@@ -1,5 +1,0 @@
--- The ledger is the blank that is passed.
-use Rattle.motion_tests.proofs.tests.roots.counts_steps.Given as goal
-
-abbrev pub ghosts-counted : goal.ghosts-counted
-ghosts-counted g a = record { name = a.blank.name; parts = a.blank.parts }

@@ -1,5 +1,0 @@
-use Rattle.std.proofs.Common.{◌≡◌}
-use Rattle.motion_tests.proofs.tests.standbys.taking.take_all.Given as goal
-
-abbrev pub invariant-loop : goal.invariant-loop
-invariant-loop l = l.standby.ring ≡ l.fn.standby.ring

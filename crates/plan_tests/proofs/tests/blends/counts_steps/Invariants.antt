@@ -1,0 +1,5 @@
+-- The ledger is the blank that is passed.
+use Rattle.plan_tests.proofs.tests.blends.counts_steps.Given as goal
+
+abbrev pub ghosts-counted : goal.ghosts-counted
+ghosts-counted g a = record { name = a.blank.name; parts = a.blank.parts }

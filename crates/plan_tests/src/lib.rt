@@ -1,0 +1,7 @@
+//! The tests of the plans: worked values of steps, moves, blends, roots, cams, gears, lines, queues,
+//! units and counts, also at the ends of their ranges. There are only tests, so that no crate below
+//! is proved twice. Begin at the tests.
+#![tactic(auto)]
+
+#[cfg(test)]
+mod tests;

@@ -1,0 +1,3 @@
+pub mod KindNameLaws
+pub mod NameLemmas
+pub mod CountLemmas

@@ -1,0 +1,53 @@
+-- The names of kinds of function block and of buffer modes, as texts have them.
+use Rattle.std.specs.Prelude.{◌≡◌, ℕ, List, codes, Option, Some}
+use Rattle.std.specs.List.{find}
+use Rattle.std.specs.Str.{bytes_eq}
+use Rattle.plc_types.specs.declared.kind.BlockKind.{BlockKind}
+use Rattle.plc_types.specs.declared.kind.BlockKind.TheVariants as kind
+use Rattle.plc_types.specs.declared.kind.BufferMode.{BufferMode}
+use Rattle.plc_types.specs.declared.kind.BufferMode.TheVariants as mode
+use Rattle.plc_types.specs.declared.kind_names.TheConstants.{KINDS, MODES}
+
+-- the names of the kinds of function block. PLCopen Motion Control Part 1 and Part 4
+unfoldable pub kind_name : BlockKind → List ℕ
+kind_name kind.Power = codes "Power"
+kind_name kind.Reset = codes "Reset"
+kind_name kind.Home = codes "Home"
+kind_name kind.Stop = codes "Stop"
+kind_name kind.Halt = codes "Halt"
+kind_name kind.MoveAbsolute = codes "MoveAbsolute"
+kind_name kind.MoveRelative = codes "MoveRelative"
+kind_name kind.MoveVelocity = codes "MoveVelocity"
+kind_name kind.GearIn = codes "GearIn"
+kind_name kind.GearOut = codes "GearOut"
+kind_name kind.CamIn = codes "CamIn"
+kind_name kind.CamOut = codes "CamOut"
+kind_name kind.GroupEnable = codes "GroupEnable"
+kind_name kind.GroupDisable = codes "GroupDisable"
+kind_name kind.GroupReset = codes "GroupReset"
+kind_name kind.GroupStop = codes "GroupStop"
+kind_name kind.GroupHalt = codes "GroupHalt"
+kind_name kind.MoveLinearAbsolute = codes "MoveLinearAbsolute"
+kind_name kind.MoveCircularAbsolute = codes "MoveCircularAbsolute"
+
+-- the kind of this name. PLCopen Motion Control Part 1 and Part 4
+unfoldable pub kind_named : List ℕ → Option BlockKind
+kind_named name = find (λ k. bytes_eq (kind_name k) name) KINDS
+
+-- the names of the buffer modes. PLCopen Motion Control Part 1, the input BufferMode
+unfoldable pub mode_name : BufferMode → List ℕ
+mode_name mode.Aborting = codes "aborting"
+mode_name mode.Buffered = codes "buffered"
+mode_name mode.BlendingLow = codes "blendingLow"
+mode_name mode.BlendingPrevious = codes "blendingPrevious"
+mode_name mode.BlendingNext = codes "blendingNext"
+mode_name mode.BlendingHigh = codes "blendingHigh"
+
+-- the mode of this name. PLCopen Motion Control Part 1, the input BufferMode
+unfoldable pub mode_named : List ℕ → Option BufferMode
+mode_named name = find (λ m. bytes_eq (mode_name m) name) MODES
+
+-- each name is read as what it names
+pub record AreNamed : Type 0 where
+  pub kinds : (k : BlockKind) → kind_named (kind_name k) ≡ Some k
+  pub modes : (m : BufferMode) → mode_named (mode_name m) ≡ Some m

@@ -1,0 +1,9 @@
+pub mod Kinds
+pub mod KindNames
+pub mod Inputs
+pub mod InputParts
+pub mod Flags
+pub mod Limits
+pub mod Names
+pub mod NameBytes
+pub mod Counts

@@ -1,0 +1,104 @@
+// The names of kinds of function block and of buffer modes, as texts have them.
+
+ghost use Rattle.std.specs.Prelude.{◌≡◌};
+ghost use Rattle.plc_types.specs.KindNames as spec;
+
+use crate::kind::{BlockKind, BufferMode};
+
+/// The kinds of function block.
+pub const KINDS: [BlockKind; 19] = [
+    BlockKind::Power,
+    BlockKind::Reset,
+    BlockKind::Home,
+    BlockKind::Stop,
+    BlockKind::Halt,
+    BlockKind::MoveAbsolute,
+    BlockKind::MoveRelative,
+    BlockKind::MoveVelocity,
+    BlockKind::GearIn,
+    BlockKind::GearOut,
+    BlockKind::CamIn,
+    BlockKind::CamOut,
+    BlockKind::GroupEnable,
+    BlockKind::GroupDisable,
+    BlockKind::GroupReset,
+    BlockKind::GroupStop,
+    BlockKind::GroupHalt,
+    BlockKind::MoveLinearAbsolute,
+    BlockKind::MoveCircularAbsolute,
+];
+
+/// The buffer modes.
+pub const MODES: [BufferMode; 6] = [
+    BufferMode::Aborting,
+    BufferMode::Buffered,
+    BufferMode::BlendingLow,
+    BufferMode::BlendingPrevious,
+    BufferMode::BlendingNext,
+    BufferMode::BlendingHigh,
+];
+
+/// The name of a kind of function block.
+#[tactic(auto, unfolding(crate::specs::KindNames::kind_name))]
+pub fn kind_name(kind: BlockKind) -> &'static str
+    ensures { result.now ≡ spec.kind_name kind }
+{
+    match kind {
+        BlockKind::Power => "Power",
+        BlockKind::Reset => "Reset",
+        BlockKind::Home => "Home",
+        BlockKind::Stop => "Stop",
+        BlockKind::Halt => "Halt",
+        BlockKind::MoveAbsolute => "MoveAbsolute",
+        BlockKind::MoveRelative => "MoveRelative",
+        BlockKind::MoveVelocity => "MoveVelocity",
+        BlockKind::GearIn => "GearIn",
+        BlockKind::GearOut => "GearOut",
+        BlockKind::CamIn => "CamIn",
+        BlockKind::CamOut => "CamOut",
+        BlockKind::GroupEnable => "GroupEnable",
+        BlockKind::GroupDisable => "GroupDisable",
+        BlockKind::GroupReset => "GroupReset",
+        BlockKind::GroupStop => "GroupStop",
+        BlockKind::GroupHalt => "GroupHalt",
+        BlockKind::MoveLinearAbsolute => "MoveLinearAbsolute",
+        BlockKind::MoveCircularAbsolute => "MoveCircularAbsolute",
+    }
+}
+
+/// The kind of this name.
+#[tactic(auto, unfolding(crate::specs::KindNames::kind_named))]
+pub fn kind_named(name: &[u8]) -> Option<BlockKind>
+    ensures { result ≡ spec.kind_named name.now }
+{
+    KINDS
+        .iter()
+        .find(|kind| kind_name(**kind).as_bytes() == name)
+        .copied()
+}
+
+/// The name of a buffer mode.
+#[tactic(auto, unfolding(crate::specs::KindNames::mode_name))]
+pub fn mode_name(mode: BufferMode) -> &'static str
+    ensures { result.now ≡ spec.mode_name mode }
+{
+    match mode {
+        BufferMode::Aborting => "aborting",
+        BufferMode::Buffered => "buffered",
+        BufferMode::BlendingLow => "blendingLow",
+        BufferMode::BlendingPrevious => "blendingPrevious",
+        BufferMode::BlendingNext => "blendingNext",
+        BufferMode::BlendingHigh => "blendingHigh",
+    }
+}
+
+/// The mode of this name.
+#[tactic(auto, unfolding(crate::specs::KindNames::mode_named))]
+pub fn mode_named(name: &[u8]) -> Option<BufferMode>
+    ensures { result ≡ spec.mode_named name.now }
+{
+    MODES
+        .iter()
+        .find(|mode| mode_name(**mode).as_bytes() == name)
+        .copied()
+}
