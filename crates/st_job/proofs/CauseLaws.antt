@@ -24,12 +24,12 @@ use Rattle.outside.specs.Told.{FileMap}
 use Rattle.st_check.specs.Reading.{reading_of}
 use Rattle.trace_text.specs.writing.Writes.{Output}
 use Rattle.st_job.specs.Causes.{both_in, is_of_st, machine_in, program_in}
-use Rattle.st_job.specs.Controllers.{cell_of}
+use Rattle.st_rounds.specs.Controllers.{cell_of}
 use Rattle.st_job.specs.Ends.{Course}
 use Rattle.st_job.specs.Given.{GivesController, GivesProgram, NoController, most_bytes}
 use Rattle.st_job.specs.Plans.{plan_of, status_of}
-use Rattle.st_job.specs.Rounds.{run_of}
-use Rattle.st_job.specs.declared.cell.Controller.{Controller}
+use Rattle.st_rounds.specs.Rounds.{run_of}
+use Rattle.st_rounds.specs.declared.cell.Controller.{Controller}
 
 -- ---- the status of a run of tasks: it stands for a trace
 

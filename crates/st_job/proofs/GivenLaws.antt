@@ -9,12 +9,12 @@ use Rattle.machine_config.specs.declared.machine.Machine.{Machine}
 use Rattle.outside.specs.Faults.{Rose}
 use Rattle.outside.specs.Told.{FileMap}
 use Rattle.trace_text.specs.writing.Writes.{Output}
-use Rattle.st_job.specs.Controllers.{cell_of}
+use Rattle.st_rounds.specs.Controllers.{cell_of}
 use Rattle.st_job.specs.Ends.{Course}
 use Rattle.st_job.specs.Given.{GivesController, GivesMachine, GivesProgram, NoController, NoProgram}
-use Rattle.st_job.specs.LegalRun.{IsTracedRun}
+use Rattle.st_job.specs.Again.{IsTracedRun}
 use Rattle.st_job.specs.Plans.{plan_of}
-use Rattle.st_job.specs.declared.cell.Controller.{Controller}
+use Rattle.st_rounds.specs.declared.cell.Controller.{Controller}
 
 -- where the second file gives no program, the files don't give both
 pub no-tasks : (told told1 : Option FileMap) (n n1 n2 : ℕ) (config program : List ℕ) (m : Machine)

@@ -15,14 +15,14 @@ use Rattle.st_tree.specs.declared.program.Task.{Task}
 use Rattle.trace_text.specs.writing.Writes.{Output}
 use Rattle.st_job.proofs.CauseLaws.{Traced, complete-by, no-controller, plain, planned, st-kind}
 use Rattle.st_job.specs.Causes.{both_in, is_of_st}
-use Rattle.st_job.specs.Cell.{Cell}
-use Rattle.st_job.specs.Controllers.{cell_of}
+use Rattle.st_rounds.specs.Cell.{Cell}
+use Rattle.st_rounds.specs.Controllers.{cell_of}
 use Rattle.st_job.specs.Ends.{Course, EndsByBoth, EndsBySt}
 use Rattle.st_job.specs.Headline.{StHeadline}
 use Rattle.st_job.specs.Plans.{plan_of}
-use Rattle.st_job.specs.Ready.{AreReady}
-use Rattle.st_job.specs.Rounds.{run_of}
-use Rattle.st_job.specs.TaskScans.{IsMadeBy, own_entries}
+use Rattle.st_rounds.specs.Ready.{AreReady}
+use Rattle.st_rounds.specs.Rounds.{run_of}
+use Rattle.st_rounds.specs.TaskScans.{IsMadeBy, own_entries}
 use Rattle.bench_run.specs.Run.{drive_ends}
 
 -- the laws of all runs: the drives are in step, and the tasks make their scans

@@ -1,17 +1,3 @@
-pub mod MadeLaws
-pub mod Kept
-pub mod ScanLaws
-pub mod ScanEnds
-pub mod TurnLaws
-pub mod RoundLaws
-pub mod OpenLaws
-pub mod ReadyLaws
-pub mod StepLaws
-pub mod EndingLaws
-pub mod OwnEntries
-pub mod TaskScans
-pub mod AllScans
-pub mod EndedTasks
 pub mod TraceLaws
 pub mod GivenLaws
 pub mod CauseLaws

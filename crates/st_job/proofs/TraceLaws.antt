@@ -22,10 +22,11 @@ use Rattle.trace_text.specs.Trace.{trace_text}
 use Rattle.trace_text.specs.writing.Writes.{Output, Writes}
 use Rattle.trace_text.specs.declared.command.Command.TheVariants as command
 use Rattle.trace_text.specs.declared.writing.write.TraceFault.{TraceFault}
-use Rattle.st_job.specs.Cell.{Cell}
-use Rattle.st_job.specs.LegalRun.{IsLegalRun, IsTracedRun}
+use Rattle.st_rounds.specs.Cell.{Cell}
+use Rattle.st_rounds.specs.LegalRun.{IsLegalRun}
+use Rattle.st_job.specs.Again.{IsTracedRun}
 use Rattle.st_job.specs.Plans.{plan_of, status_of}
-use Rattle.st_job.specs.Rounds.{run_of}
+use Rattle.st_rounds.specs.Rounds.{run_of}
 
 -- the trace is that of the machine's run, and the status is the run's
 pub wrote : (old new : Output) (c : Cell) (k : KernelState) (drives : List DriveSim)

@@ -10,12 +10,12 @@ use Rattle.outside.specs.Faults.{Rose}
 use Rattle.outside.specs.Told.{FileMap}
 use Rattle.trace_text.specs.writing.Writes.{Output}
 use Rattle.st_job.specs.Causes.{both_in, is_of_st}
-use Rattle.st_job.specs.Controllers.{cell_of}
+use Rattle.st_rounds.specs.Controllers.{cell_of}
 use Rattle.st_job.specs.Given.{GivesController, NoController}
 use Rattle.st_job.specs.Headline.{StHeadline}
-use Rattle.st_job.specs.LegalRun.{IsTracedRun}
+use Rattle.st_job.specs.Again.{IsTracedRun}
 use Rattle.st_job.specs.Plans.{plan_of}
-use Rattle.st_job.specs.declared.cell.Controller.{Controller}
+use Rattle.st_rounds.specs.declared.cell.Controller.{Controller}
 
 -- how it ends where the files give a machine and its program: by the plan of its run, and where
 -- there is a trace the run is legal, and its trace is read back

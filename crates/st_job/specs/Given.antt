@@ -11,8 +11,8 @@ use Rattle.outside.specs.Told.{FileMap}
 use Rattle.st_check.specs.Reading.{Outcome, reading_of}
 use Rattle.st_lang.specs.Spelled.{IsStText}
 use Rattle.trace_text.specs.writing.Writes.{Output}
-use Rattle.st_job.specs.Ready.{AreReady}
-use Rattle.st_job.specs.declared.cell.Controller.{Controller}
+use Rattle.st_rounds.specs.Ready.{AreReady}
+use Rattle.st_rounds.specs.declared.cell.Controller.{Controller}
 
 -- the most bytes of a configuration or a program: 16 MiB
 abbrev pub most_bytes : ℕ

@@ -17,10 +17,10 @@ use Rattle.trace_check.specs.KeptHistories.{IsReadBack}
 use Rattle.trace_text.specs.Trace.{trace_text}
 use Rattle.trace_text.specs.declared.command.Command.TheVariants.{Run}
 use Rattle.trace_text.specs.declared.drive_end.DriveEndRow.{DriveEndRow}
-use Rattle.st_job.specs.Cell.{Cell}
+use Rattle.st_rounds.specs.Cell.{Cell}
 use Rattle.st_job.specs.Plans.{status_of}
-use Rattle.st_job.specs.Rounds.{run_of}
-use Rattle.st_job.specs.TaskScans.{IsMadeBy, own_entries}
+use Rattle.st_rounds.specs.Rounds.{run_of}
+use Rattle.st_rounds.specs.TaskScans.{IsMadeBy, own_entries}
 
 -- the trace that was written is that of a machine with tasks in Structured Text: of the one history
 -- that their rounds make

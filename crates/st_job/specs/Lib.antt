@@ -1,15 +1,6 @@
-pub mod Cell
-pub mod Rounds
-pub mod Ready
-pub mod Playing
-pub mod Players
-pub mod Opening
-pub mod Controllers
-pub mod LegalRun
 pub mod Plans
+pub mod Again
 pub mod Given
 pub mod Causes
 pub mod Headline
 pub mod Ends
-pub mod TaskScans
-pub mod Endings

@@ -9,8 +9,8 @@ use Rattle.job_ends.specs.declared.status.Status.TheVariants as status
 use Rattle.motion_history.specs.declared.refused.TraceVersion.TheVariants.{Two}
 use Rattle.trace_text.specs.Trace.{trace_text}
 use Rattle.trace_text.specs.declared.command.Command.TheVariants as command
-use Rattle.st_job.specs.Cell.{Cell}
-use Rattle.st_job.specs.Rounds.{run_of}
+use Rattle.st_rounds.specs.Cell.{Cell}
+use Rattle.st_rounds.specs.Rounds.{run_of}
 
 -- the status that a run ends with
 abbrev pub status_of : Result (Unit {0}) RunFault → Status

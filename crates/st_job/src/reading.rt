@@ -6,13 +6,13 @@ ghost use Rattle.motion_history.specs.Setup.{IsSetup};
 ghost use Rattle.outside.specs.Faults.{Rose};
 ghost use Rattle.st_job.specs.Given.{ControllerBy, GivesController, GivesMachine, GivesProgram, NoController, NoMachine, NoProgram};
 
-use crate::cell::Controller;
 use job_ends::{Status, read_text, say_refused};
 use machine_config::{Machine, read_config};
 use motion_history::{Builder, Config, TextFault};
 use outside::{Files, Sink};
 use st_exec::{compile, scans_call_the_machine};
 use st_lang::read_st;
+use st_rounds::Controller;
 use std::alloc::Global;
 
 /// The most bytes of a configuration or a program: 16 MiB.

@@ -4,11 +4,11 @@ ghost use Rattle.std.specs.Prelude.{◌≡◌};
 ghost use Rattle.outside.specs.Faults.{Rose};
 ghost use Rattle.st_job.specs.Ends.{EndsBySt};
 
-use crate::laws::{rounds_are_in_step, tasks_make_their_scans};
 use crate::reading::read_controller;
 use crate::trace::run_cell;
 use job_ends::{Status, ends_follow_plans};
 use outside::{Files, Sink};
+use st_rounds::{rounds_are_in_step, tasks_make_their_scans};
 use std::alloc::Global;
 
 /// Runs the machine that the first file configures with the tasks that the second is in Structured

@@ -1,7 +1,7 @@
 -- The trace of the run was written, or there was no memory for the run.
 use Rattle.std.proofs.Common.{refl}
 use Rattle.job_ends.specs.declared.status.Status.TheVariants as status
-use Rattle.st_job.specs.Controllers.{cell_of}
+use Rattle.st_rounds.specs.Controllers.{cell_of}
 use Rattle.st_job.proofs.TraceLaws.{traced-run, untraced}
 use Rattle.st_job.proofs.trace.run_cell.Goals as goal
 

@@ -1,5 +1,0 @@
-use Rattle.st_job.proofs.OpenLaws.{AreOpenedTo}
-use Rattle.st_job.proofs.run.open_players.Given as goal
-
-abbrev pub invariant-loop-number : goal.invariant-loop-number
-invariant-loop-number l = AreOpenedTo l.code l.number l.players.items

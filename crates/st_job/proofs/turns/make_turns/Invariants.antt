@@ -1,6 +1,0 @@
-use Rattle.st_job.proofs.TurnLaws.{AreInTurns}
-use Rattle.st_job.proofs.turns.make_turns.Given as goal
-
-abbrev pub invariant-loop-number : goal.invariant-loop-number
-invariant-loop-number l =
-    AreInTurns l.cell l.number l.kernel.kernel l.players l.initial.kernel.kernel l.initial.players

@@ -1,0 +1,13 @@
+pub mod MadeLaws
+pub mod Kept
+pub mod ScanLaws
+pub mod ScanEnds
+pub mod TurnLaws
+pub mod RoundLaws
+pub mod OpenLaws
+pub mod StepLaws
+pub mod EndingLaws
+pub mod OwnEntries
+pub mod TaskScans
+pub mod AllScans
+pub mod EndedTasks

@@ -1,0 +1,10 @@
+pub mod Cell
+pub mod Rounds
+pub mod Ready
+pub mod Playing
+pub mod Players
+pub mod Opening
+pub mod Controllers
+pub mod LegalRun
+pub mod TaskScans
+pub mod Endings
