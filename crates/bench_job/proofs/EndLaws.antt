@@ -12,8 +12,6 @@ use Rattle.bench_text.specs.Reading.{ReadsBy, bench_of}
 use Rattle.drive_sim.specs.Sim.{DriveSim}
 use Rattle.job_ends.specs.Causes.{is_traced}
 use Rattle.job_ends.specs.Ends.{EndsBy, status_by}
-use Rattle.job_ends.specs.Follows.{FollowPlans}
-use Rattle.job_ends.specs.Plans.{Plan, plan_of_reading, refused_plan}
 use Rattle.job_ends.specs.declared.status.Status.{Status}
 use Rattle.machine_drives.specs.Drives.{drive_end}
 use Rattle.motion_history.specs.Entries.{cycles_of}
@@ -34,14 +32,6 @@ use Rattle.bench_job.specs.Headline.{RunsBy}
 use Rattle.bench_job.specs.Plans.{bench_plan, plan_of_bench, status_of}
 use Rattle.bench_job.proofs.CauseLaws.{ends-for}
 use Rattle.bench_job.proofs.HeadlineLaws.{headline-of}
-
--- a text that is refused ends by its reading's plan
-pub refused-ends : {A : Type 0} (old new : Output) (plan : A → Plan) (name : List ℕ)
-    (reading : Result A TextRefused) (r : TextRefused) (s : Status) → reading ≡ Err r →
-    EndsBy old new (refused_plan 1 name r) s →
-    EndsBy old new (plan_of_reading plan 1 name reading) s
-refused-ends old new plan name reading r s e =
-    subst (λ p. EndsBy old new p s) (sym (ap (plan_of_reading plan 1 name) e))
 
 -- why a text is refused
 pub refused-why : (reading : Result BenchState TextRefused) (f : TextFault) (r : TextRefused) →
@@ -103,11 +93,11 @@ pub runs-other : (IsRead : BenchState → Type 0) (s : Status) → is_traced s �
 runs-other IsRead s e = λ b h t. absurd (let bad : true ≡ false = sym t ∙ e in cc)
 
 -- so the job ended
-pub ended : FollowPlans → ((b : BenchState) → IsInStep b) → (name text : List ℕ) (old new : Output)
+pub ended : ((b : BenchState) → IsInStep b) → (name text : List ℕ) (old new : Output)
     (s : Status) → EndsBy old new (bench_plan name text) s → RunsBy (λ b. bench_of text ≡ Ok b) s →
     EndsByBench name text old new s
-ended follow step name text old new s e runs = record {
+ended step name text old new s e runs = record {
   by = ends-for name text old new s e;
   runs = runs;
-  headline = headline-of follow step name text old new s e runs;
+  headline = headline-of step name text old new s e runs;
 }

@@ -14,7 +14,7 @@ ghost use Rattle.trace_text.specs.writing.Writes.{Writes};
 
 use bench_run::{Ran, RunFault, run, runs_are_in_step};
 use bench_text::{Bench, read_bench};
-use job_ends::{Status, ends_follow_plans, say_refused, status_by};
+use job_ends::{Status, say_refused, status_by};
 use machine_drives::{end_rows, positions_have_32_bits};
 use motion_history::TextFault;
 use outside::Sink;
@@ -36,7 +36,6 @@ pub fn run_text<K: Sink>(
         (record { count = K.count out.old; told = K.told out.old })
         (record { count = K.count out.new; told = K.told out.new }) result }
 {
-    ends_follow_plans();
     runs_are_in_step();
     match read_bench(alloc, text) {
         Ok(bench) => run_bench(alloc, &bench, cut, out),
@@ -52,7 +51,6 @@ fn run_bench<K: Sink>(alloc: Global, bench: &Bench, cut: Option<u32>, out: &mut 
         (record { count = K.count out.new; told = K.told out.new })
         (plan_of_bench bench.now) result }
 {
-    ends_follow_plans();
     let Ok(ran) = run(alloc, bench, cut) else {
         return Status::OutOfMemory;
     };

@@ -1,6 +1,7 @@
 pub mod PlanLaws
 pub mod Refusals
-pub mod Readings
 pub mod Statuses
+pub mod Readings
+pub mod CourseLaws
 pub mod Both
-pub mod Courses
+pub mod OverLaws

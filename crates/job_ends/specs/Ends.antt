@@ -1,8 +1,7 @@
 -- How a job of the program ends. This project's profile.
-use Rattle.std.specs.Prelude.{◌≡◌, ◌≤◌, ◌⊎◌, ℕ, Option, Result, Ok, Err, List, length}
+use Rattle.std.specs.Prelude.{◌≡◌, ℕ, Result, Ok, Err, List}
 use Rattle.std.proofs.Common.{Vec, Global}
 use Rattle.std.specs.declared.alloc.AllocError.{AllocError}
-use Rattle.outside.specs.Told.{FileMap, HasFile, IsLonger, LacksFile}
 use Rattle.outside.specs.declared.files.FilesFault.{FilesFault}
 use Rattle.outside.specs.declared.files.FilesFault.TheVariants as files
 use Rattle.trace_text.specs.writing.Writes.{Output, Writes}
@@ -11,22 +10,6 @@ use Rattle.trace_text.specs.declared.writing.write.TraceFault.TheVariants as fau
 use Rattle.job_ends.specs.Plans.{Plan, too_long_plan, unread_plan}
 use Rattle.job_ends.specs.declared.status.Status.{Status}
 use Rattle.job_ends.specs.declared.status.Status.TheVariants as status
-
--- what a read of a file found
-pub data Found : Type 0 where
-  -- the file couldn't be read
-  Unread : Found
-  -- it has more bytes than are read
-  Longer : Found
-  -- its bytes
-  Content : List ℕ → Found
-
--- a file can't be read only where the count of faults rose or the known map lacks it; it is too
--- long where it has more bytes than are read; its bytes are those of the known map
-abbrev pub IsFound : Option FileMap → Type 0 → List ℕ → ℕ → Found → Type 0
-IsFound told rose name most Unread = rose ⊎ LacksFile told name
-IsFound told rose name most Longer = IsLonger told name most
-IsFound told rose name most (Content text) = HasFile told name text × (length text ≤ most)
 
 -- the status by what became of the writing
 abbrev pub status_by : Status → Result (Unit {0}) TraceFault → Status

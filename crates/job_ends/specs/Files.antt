@@ -43,6 +43,20 @@ pub record GivesReading {A : Type 0} (told : Option FileMap) (name : List ℕ) (
   pub read : reading text ≡ Ok x
   pub means : Means text x
 
+-- how a job ends by one file: it gives no reading, or it gives one, and the job ended by that
+abbrev pub EndsByFile : {A : Type 0} → Option FileMap → Type 0 → List ℕ → ℕ →
+    (List ℕ → Result A TextRefused) → (A → Type 0) → Output → Output → Status → Type 0
+EndsByFile {A = A} told rose name most read Ends old new s =
+    NoReading told rose 1 name most read old new s ⊎
+    ((a : A) × GivesReading told name most read (λ text x. Unit {0}) a × Ends a)
+
+-- how one ends by the text of a file: it gives none, or it gives one, and the job ended by that
+abbrev pub EndsByText : Option FileMap → Type 0 → List ℕ → ℕ → (List ℕ → Type 0) → Output → Output →
+    Status → Type 0
+EndsByText told rose name most Ends old new s =
+    NoText told rose 1 name most old new s ⊎
+    ((text : List ℕ) × IsText told name most text × Ends text)
+
 -- two files don't give what is read in them: the first gives no reading, or it gives one by which the
 -- second gives none
 abbrev pub NoBoth : {A B : Type 0} → Option FileMap → Type 0 → (first second : List ℕ) →

@@ -5,13 +5,11 @@
 #![tactic(auto)]
 
 mod files;
-mod laws;
 mod lines;
 mod saying;
 mod status;
 
 pub use files::read_text;
-pub use laws::ends_follow_plans;
 pub use lines::joined;
 pub use outside::{Files, FilesFault, OutOfMemory, Sink};
 pub use saying::{say, say_all, say_refused, say_unread};

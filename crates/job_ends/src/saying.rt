@@ -4,7 +4,6 @@ ghost use Rattle.std.specs.Prelude.{◌≡◌};
 ghost use Rattle.job_ends.specs.Ends.{EndsBy, EndsUnread, Says};
 ghost use Rattle.job_ends.specs.Plans.{refused_plan};
 
-use crate::laws::ends_follow_plans;
 use crate::lines::{named_line, refused_line};
 use crate::status::Status;
 use motion_history::TextRefused;
@@ -48,7 +47,6 @@ pub fn say_refused<K: Sink>(
         (record { count = K.count out.new; told = K.told out.new })
         (refused_plan word name.now refused.now) result }
 {
-    ends_follow_plans();
     say(
         refused_line(alloc, name, refused),
         Status::TextRefused {
@@ -72,7 +70,6 @@ pub fn say_unread<K: Sink>(
         (record { count = K.count out.old; told = K.told out.old })
         (record { count = K.count out.new; told = K.told out.new }) result }
 {
-    ends_follow_plans();
     match fault {
         FilesFault::Failed => say(
             named_line(alloc, b"cannot read ", name),

@@ -10,9 +10,9 @@ use Rattle.bench_run.specs.Run.{Run, events_in, run_of}
 use Rattle.bench_run.specs.declared.bench.RunFault.{RunFault}
 use Rattle.bench_text.specs.BenchState.{BenchState}
 use Rattle.drive_sim.specs.Sim.{DriveSim}
+use Rattle.job_ends.proofs.PlanLaws.{early, whole}
 use Rattle.job_ends.specs.Causes.{EndsFor, is_fault}
 use Rattle.job_ends.specs.Ends.{EndsBy, EndsEarly}
-use Rattle.job_ends.specs.Follows.{FollowPlans}
 use Rattle.job_ends.specs.declared.status.Status.{Status}
 use Rattle.job_ends.specs.declared.status.Status.TheVariants as status
 use Rattle.load_gen.specs.Counts.{LoadsFill}
@@ -27,7 +27,6 @@ use Rattle.load_job.specs.Lines.{load_line}
 
 -- what is known of all runs and loads
 pub record IsKnown : Type 0 where
-  pub follow : FollowPlans
   pub fill : LoadsFill
   pub step : (b : BenchState) → IsInStep b
   pub ending : (b : BenchState) → HasRoom b → (run_of b).ending ≡ Ok tt
@@ -57,7 +56,7 @@ line-of known seed old new s e legal h =
       entries = known.entries b ending ∙ all-events known.fill seed;
       legal = legal.legal;
       laws = legal.laws;
-      written = (known.follow.whole old new (load_plan seed) s e (ap is_fault h)).1;
+      written = (whole old new (load_plan seed) s e (ap is_fault h)).1;
     }
 
 ended : IsKnown → (seed : ℕ) (old new : Output) (s : Status) → EndsBy old new (load_plan seed) s →
@@ -72,7 +71,7 @@ ended known seed old new s e legal = record {
 pub ended-early : IsKnown → (seed : ℕ) (old new : Output) (s : Status) → EndsEarly old new s →
     EndsByLoad seed old new s
 ended-early known seed old new s e =
-    ended known seed old new s (known.follow.early old new (load_plan seed) s e)
+    ended known seed old new s (early old new (load_plan seed) s e)
     (λ h. absurd (let bad : status.OutOfMemory ≡ status.Ok = sym e.status ∙ h in cc))
 
 -- a load was run, and its line said

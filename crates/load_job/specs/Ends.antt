@@ -1,10 +1,11 @@
 -- How the job ends. This project's profile.
-use Rattle.std.specs.Prelude.{◌≡◌, ℕ, Option, Ok, List, length}
+use Rattle.std.specs.Prelude.{◌≡◌, ℕ, true, Option, Ok, List, length}
 use Rattle.std.specs.Io.KnownBytes.{Appends}
 use Rattle.bench_run.specs.InStep.{TakesAnswers}
 use Rattle.bench_run.specs.LegalRun.{IsLegalRun}
 use Rattle.bench_run.specs.Run.{run_of}
 use Rattle.job_ends.specs.Causes.{EndsFor}
+use Rattle.job_ends.specs.Courses.{Job}
 use Rattle.job_ends.specs.Plans.{Plan}
 use Rattle.job_ends.specs.declared.status.Status.{Status}
 use Rattle.job_ends.specs.declared.status.Status.TheVariants as status
@@ -43,6 +44,17 @@ pub record LoadLine (seed : ℕ) (old new : Option (List ℕ)) : Type 0 where
 abbrev pub LoadCause : Status → Type 0
 LoadCause status.Ok = Unit {0}
 LoadCause _ = ⊥
+
+-- the job over no files: it leads to Ok
+abbrev pub load_job : Job
+load_job = record {
+  Given = Unit {0};
+  files = 0;
+  reading = λ files. Ok tt;
+  Cause = λ given. LoadCause;
+  whole = true;
+  Own = λ s. s ≡ status.Ok;
+}
 
 -- it ended by the plan of the seed, for its cause; and on Ok the run is legal, and the line that
 -- was written is that of the load

@@ -1,7 +1,4 @@
-pub mod PlanLaws
-pub mod FileLaws
-pub mod ReportLaws
-pub mod FileSaid
-pub mod SaidLaws
 pub mod AskedLaws
+pub mod FileLaws
+pub mod SaidLaws
 pub mod WrittenLaws

@@ -1,6 +1,5 @@
 pub mod Plans
 pub mod Causes
-pub mod Reports
 pub mod Ends
 pub mod Again
 pub mod Said

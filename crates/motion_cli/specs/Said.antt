@@ -1,22 +1,23 @@
 -- What is said of how the program ends, by what was asked: what was written stands for, and the
 -- cause of each status. This project's profile.
-use Rattle.std.specs.Prelude.{◌≡◌, ◌⊎◌, ℕ, true, false, Option, Some, None, IsSomeAnd, List}
+use Rattle.std.specs.Prelude.{◌≡◌, ◌⊎◌, ℕ, true, Option, Some, None, IsSomeAnd, List}
 use Rattle.std.specs.Result.{IsOk}
 use Rattle.bench_job.specs.Headline.{Headline}
-use Rattle.command_words.specs.Requests.{Report, Request, of_file, of_load, of_report, of_run, of_scope, of_switches, of_tasks}
+use Rattle.command_words.specs.Requests.{Request, of_file, of_load, of_report, of_run, of_scope, of_switches, of_tasks}
 use Rattle.command_words.specs.declared.request.Job.{Job}
 use Rattle.command_words.specs.declared.request.Job.TheVariants.{Bench, Check, Migrate}
-use Rattle.job_ends.specs.Causes.{ComesExactly, is_fault, is_traced}
+use Rattle.job_ends.specs.Causes.{is_traced}
+use Rattle.job_ends.specs.Courses.{Says}
 use Rattle.job_ends.specs.declared.status.Status.{Status}
 use Rattle.job_ends.specs.declared.status.Status.TheVariants as status
 use Rattle.load_job.specs.Ends.{LoadLine}
-use Rattle.motion_cli.specs.Causes.{Cause, HasRoom, Lacks, is_decided, may_end}
+use Rattle.motion_cli.specs.Causes.{HasRoom, job_of}
 use Rattle.outside.specs.Faults.{Rose}
 use Rattle.outside.specs.Told.{FileMap}
-use Rattle.run_job.specs.Causes.{plant_in}
+use Rattle.run_job.specs.Causes.{run_job}
 use Rattle.run_job.specs.Headline.{RunHeadline}
 use Rattle.scope_job.specs.Scoped.{Scoped}
-use Rattle.st_job.specs.Causes.{both_in}
+use Rattle.st_job.specs.Causes.{st_job}
 use Rattle.st_job.specs.Headline.{StHeadline}
 use Rattle.switch_job.specs.Switched.{Switched}
 use Rattle.trace_jobs.specs.Migrated.{Migrated}
@@ -29,26 +30,30 @@ FileStands told Bench name old new s = is_traced s ≡ true → Headline told na
 FileStands told Check name old new s = Unit {0}
 FileStands told Migrate name old new s = s ≡ status.Ok → Migrated told name old new
 
--- on Ok the edges of the switches in a legal trace were written, or the report of a trace
-abbrev pub ReportStands : Option FileMap → Report → Option (List ℕ) → Option (List ℕ) → Status → Type 0
-ReportStands told (of_switches trace switches) old new s = s ≡ status.Ok → Switched told trace switches old new
-ReportStands told (of_scope trace) old new s = s ≡ status.Ok → Scoped told trace old new
-
 -- a trace for `run` is that of a run, and for `st` that of tasks in Structured Text; on Ok `gen` wrote
--- the line of the load that the seed generates
-abbrev pub Stands : Option FileMap → (ℕ → Type 0) → Request → Option (List ℕ) → Option (List ℕ) → Status → Type 0
+-- the line of the load that the seed generates, `switches` the edges of the switches in a legal trace,
+-- and `scope` the report of a trace
+abbrev pub Stands : Option FileMap → (ℕ → Type 0) → Request → Option (List ℕ) →
+    Option (List ℕ) → Status → Type 0
 Stands told Started (of_file r) old new s = FileStands told r.job r.name old new s
-Stands told Started (of_run r) old new s = is_traced s ≡ true → RunHeadline told r.config r.program old new Started s
+Stands told Started (of_run r) old new s =
+    is_traced s ≡ true → RunHeadline told r.config r.program old new Started s
 Stands told Started (of_load seed) old new s = s ≡ status.Ok → LoadLine seed old new
-Stands told Started (of_tasks r) old new s = is_traced s ≡ true → StHeadline told r.config r.program old new s
-Stands told Started (of_report r) old new s = ReportStands told r old new s
+Stands told Started (of_tasks r) old new s =
+    is_traced s ≡ true → StHeadline told r.config r.program old new s
+Stands told Started (of_report (of_switches trace switches)) old new s =
+    s ≡ status.Ok → Switched told trace switches old new
+Stands told Started (of_report (of_scope trace)) old new s =
+    s ≡ status.Ok → Scoped told trace old new
 
 -- the files give what can be run to an end: a bench with room enough, a plant, tasks; a load needs none
 abbrev pub GivesRun : Option FileMap → Request → Type 0
 GivesRun told (of_file r) = IsSomeAnd told (λ files. IsSomeAnd (files r.name) (HasRoom r.job))
-GivesRun told (of_run r) = IsSomeAnd told (λ files. IsOk (plant_in files r.config r.program))
+GivesRun told (of_run r) =
+    IsSomeAnd told (λ files. IsOk ((run_job ⊥ r.config r.program).reading files))
 GivesRun told (of_load seed) = Unit {0}
-GivesRun told (of_tasks r) = IsSomeAnd told (λ files. IsOk (both_in files r.config r.program))
+GivesRun told (of_tasks r) =
+    IsSomeAnd told (λ files. IsOk ((st_job r.config r.program).reading files))
 GivesRun told (of_report r) = ⊥
 
 -- no thread that the request needs was refused: a run alone starts threads by the spawner
@@ -67,25 +72,14 @@ pub record IsSaidOf (told : Option FileMap) (rose unstarted : Type 0) (Started :
     (r : Request) (old new : Output) (s : Status) : Type 0 where
   -- what was written stands for what was asked
   pub written : Stands told Started r old.told new.told s
-  -- each status that the files decide comes exactly of its cause
-  pub comes : (files : FileMap) (wanted : Status) → told ≡ Some files →
-      is_decided r wanted ≡ true → ComesExactly s wanted (Cause files r wanted)
-  -- a file couldn't be read only where reading failed, or the files lack it
-  pub read_fault : (word : ℕ) → s ≡ status.ReadFault word →
-      rose ⊎ IsSomeAnd told (λ files. Lacks files r word)
+  -- each status that the files decide comes exactly of its cause, a fault only where one was, and no
+  -- status but the request's, so never Usage
+  pub says : Says told rose (job_of unstarted r) old new s
   -- a thread was refused
   pub thread_refused : s ≡ status.ThreadRefused → unstarted
-  -- writing failed
-  pub write_fault : s ≡ status.WriteFault → Rose old.count new.count
-  -- where no file is lacking and no count of faults rose, no fault comes but out of memory
-  pub faultless : (files : FileMap) → told ≡ Some files →
-      ((word : ℕ) → Lacks files r word → ⊥) → (rose → ⊥) → (Rose old.count new.count → ⊥) →
-      (is_fault s ≡ false) ⊎ (s ≡ status.OutOfMemory)
-  -- and what can be run to its end is
+  -- what can be run to its end is
   pub complete : GivesRun told r → (rose → ⊥) → NoneUnstarted unstarted r →
       (Rose old.count new.count → ⊥) → RanToEnd r s ⊎ (s ≡ status.OutOfMemory)
-  -- it is one of the request's statuses, so never Usage
-  pub kind : may_end r s ≡ true
 
 -- words that are no request end with Usage, or writing its line failed, or memory ran out
 abbrev pub IsSaid : Option FileMap → Type 0 → Type 0 → (ℕ → Type 0) → Option Request → Output → Output → Status → Type 0

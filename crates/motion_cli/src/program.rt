@@ -15,7 +15,7 @@ use crate::serve::serve;
 use crate::usage::say_usage;
 use bench_job::room_leads_to_ok;
 use command_words::{Words, asked, words_from};
-use job_ends::{Status, ends_follow_plans};
+use job_ends::Status;
 use outside::{Files, Gate, Host, MOST_JOBS, OutOfMemory, Sink, Spawner};
 use run_job::PlantJob;
 use std::alloc::Global;
@@ -137,7 +137,6 @@ pub fn top<F: Files, K: Sink, H: Host + Wait + Sync, G: Gate + Drop + Send + 'st
     ensures joined { JoinsAll spawner.old.jobs spawner.new.jobs }
     ensures alone { run_of words.now ≡ None → spawner.new ≡ spawner.old }
 {
-    ends_follow_plans();
     room_leads_to_ok();
     match asked(alloc, words) {
         Ok(asked) => serve(rt, alloc, asked, files, out, spawner, gate),

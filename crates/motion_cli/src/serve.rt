@@ -1,9 +1,9 @@
 // What is asked is done.
 
-ghost use Rattle.std.specs.Prelude.{◌≡◌, ◌≤◌, ◌+◌, ◌⊎◌, None, Some, length};
+ghost use Rattle.std.specs.Prelude.{◌≡◌, ◌≤◌, ◌+◌, None, Some, length};
 ghost use Rattle.std.specs.Option.{option_and_then, option_map};
-ghost use Rattle.job_ends.specs.Ends.{EndsEarly};
-ghost use Rattle.motion_cli.specs.Ends.{EndsByFile, EndsByRequest, EndsByText};
+ghost use Rattle.job_ends.specs.Files.{EndsByText};
+ghost use Rattle.motion_cli.specs.Ends.{EndsByJob, EndsByRequest};
 ghost use Rattle.motion_cli.specs.Plans as plans;
 ghost use Rattle.command_words.specs.Requests.{files_of, request_told};
 ghost use Rattle.outside.specs.Faults.{Rose};
@@ -12,7 +12,7 @@ ghost use Rattle.run_job.specs.Joined.{JoinsAll};
 use crate::usage::say_usage;
 use bench_job::run_text;
 use command_words::{Job, Request};
-use job_ends::{Status, say_unread};
+use job_ends::{Status, read_text};
 use load_job::run_load;
 use outside::{Files, Gate, Host, MOST_JOBS, Sink, Spawner};
 use run_job::{PlantJob, RunNames, run_files};
@@ -139,23 +139,22 @@ fn serve_file<F: Files, K: Sink>(
     files: &mut F,
     out: &mut K,
 ) -> Status
-    ensures { EndsByFile (F.told files.old) (Rose (F.count files.old) (F.count files.new))
-        (record { job = work.job; name = name.now })
+    ensures { EndsByText (F.told files.old) (Rose (F.count files.old) (F.count files.new)) name.now
+        (plans.most_of work.job) (λ text. EndsByJob work.job name.now text
         (record { count = K.count out.old; told = K.told out.old })
-        (record { count = K.count out.new; told = K.told out.new }) result ⊎
-        EndsEarly (record { count = K.count out.old; told = K.told out.old })
+        (record { count = K.count out.new; told = K.told out.new }) result)
+        (record { count = K.count out.old; told = K.told out.old })
         (record { count = K.count out.new; told = K.told out.new }) result }
 {
-    let mut text = Vec::new(alloc);
-    match files.read_all(name, &mut text, most_bytes(work.job)) {
-        Ok(()) => do_job(alloc, work, name, text, out),
-        Err(fault) => say_unread(alloc, 1, name, fault, out),
+    match read_text(alloc, 1, name, most_bytes(work.job), files, out) {
+        Ok(text) => do_job(alloc, work, name, text, out),
+        Err(status) => status,
     }
 }
 
 // Does what is asked with a text.
 fn do_job<K: Sink>(alloc: Global, work: Work, name: &str, text: Vec<u8>, out: &mut K) -> Status
-    ensures { EndsByText work.job name.now text.items
+    ensures { EndsByJob work.job name.now text.items
         (record { count = K.count out.old; told = K.told out.old })
         (record { count = K.count out.new; told = K.told out.new }) result }
 {
@@ -168,7 +167,7 @@ fn do_job<K: Sink>(alloc: Global, work: Work, name: &str, text: Vec<u8>, out: &m
 
 // Verifies a text: as a trace segment where it begins as one, else as a trace.
 fn verify_text<K: Sink>(alloc: Global, name: &str, text: Vec<u8>, out: &mut K) -> Status
-    ensures { EndsByText Job.Check name.now text.items
+    ensures { EndsByJob Job.Check name.now text.items
         (record { count = K.count out.old; told = K.told out.old })
         (record { count = K.count out.new; told = K.told out.new }) result }
 {

@@ -1,4 +1,3 @@
-pub mod PlantLaws
 pub mod RowLaws
 pub mod CauseLaws
 pub mod HeadlineLaws

@@ -4,9 +4,9 @@ use Rattle.std.specs.Prelude.{true, false, ◌≡◌, ◌≢◌, ◌↔◌, ◌+
 use Rattle.std.specs.Arc.{arc_value}
 use Rattle.std.proofs.Common.{◌∙◌, inr, sym, ap, subst, arith}
 use Rattle.plc_types.specs.declared.axis.AxisDef.{AxisDef}
+use Rattle.job_ends.proofs.PlanLaws.{early}
 use Rattle.job_ends.specs.Causes.{is_traced}
 use Rattle.job_ends.specs.Ends.{EndsEarly, status_by}
-use Rattle.job_ends.specs.Follows.{FollowPlans}
 use Rattle.job_ends.specs.declared.status.Status.{Status}
 use Rattle.machine_drives.specs.Drives.{drives_at_opening}
 use Rattle.motion_history.specs.Entries.{Entry, cycles_of}
@@ -62,14 +62,14 @@ wrote s h logs old new e rows given r written has is same writes back by = recor
 }
 
 -- nothing was written, for out of memory
-pub wrote-none : FollowPlans → (s : Setup) (h : List Entry) (logs : List DriveLog)
+pub wrote-none : (s : Setup) (h : List Entry) (logs : List DriveLog)
     (old new : Output) (e : RunEnding) (r : Status) → HasEnded (status_of e) s h →
     EndsEarly old new r → WritesTrace s h logs old new r
-wrote-none follow s h logs old new e r has early = record {
+wrote-none s h logs old new e r has none = record {
   status = status_of e;
   ended = has;
-  ends = follow.early old new (run_plan (status_of e) s h (map end_row logs)) r early;
-  again = λ t. absurd (let bad : true ≡ false = sym t ∙ ap is_traced early.status in cc);
+  ends = early old new (run_plan (status_of e) s h (map end_row logs)) r none;
+  again = λ t. absurd (let bad : true ≡ false = sym t ∙ ap is_traced none.status in cc);
 }
 
 -- there is a drive for each axis

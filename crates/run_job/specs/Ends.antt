@@ -1,11 +1,9 @@
 -- How the job ends. This project's profile.
-use Rattle.std.specs.Prelude.{◌≡◌, ◌⊎◌, ℕ, ◌+◌, Option, Some, IsSomeAnd, Err, List, length, map, true}
-use Rattle.std.specs.Result.{IsOk}
-use Rattle.job_ends.specs.Readings.{is_of_text}
-use Rattle.job_ends.specs.Causes.{ComesExactly, is_traced}
+use Rattle.std.specs.Prelude.{◌≡◌, ◌⊎◌, ℕ, ◌+◌, Option, List, length, map, true}
+use Rattle.job_ends.specs.Causes.{is_traced}
+use Rattle.job_ends.specs.Courses.{Says}
 use Rattle.job_ends.specs.Ends.{EndsBy, EndsEarly}
 use Rattle.job_ends.specs.declared.status.Status.{Status}
-use Rattle.job_ends.specs.declared.status.Status.TheVariants as status
 use Rattle.machine_config.specs.declared.machine.Machine.{Machine}
 use Rattle.machine_drives.specs.Drives.{drives_at_opening}
 use Rattle.motion_history.specs.Entries.{Entry}
@@ -13,7 +11,6 @@ use Rattle.motion_history.specs.Setup.{Setup}
 use Rattle.motion_history.specs.declared.drives.DriveDef.{DriveDef}
 use Rattle.motion_history.specs.declared.refused.TraceVersion.TheVariants.{Two}
 use Rattle.motion_plant.specs.Ran.{PlantRan}
-use Rattle.outside.specs.Faults.{Rose}
 use Rattle.outside.specs.Told.{FileMap}
 use Rattle.plc_program.specs.Programs.{IsProgramOf}
 use Rattle.plc_program.specs.Reading.{Outcome}
@@ -22,7 +19,7 @@ use Rattle.setpoint_ring.specs.declared.logs.DriveLog.{DriveLog}
 use Rattle.trace_check.specs.KeptHistories.{IsReadBack}
 use Rattle.trace_text.specs.declared.command.Command.TheVariants.{Run}
 use Rattle.trace_text.specs.writing.Writes.{Output}
-use Rattle.run_job.specs.Causes.{is_of_run, plant_in}
+use Rattle.run_job.specs.Causes.{run_job}
 use Rattle.run_job.specs.Headline.{HasEnded, RunHeadline}
 use Rattle.run_job.specs.Plans.{end_row, no_thread_plan, run_plan}
 use Rattle.run_job.specs.Plants.{GivesMachine, GivesProgram, NoPlant}
@@ -75,23 +72,7 @@ Course told rose refused Started config program old new s =
 pub record EndsByRun (told : Option FileMap) (rose refused : Type 0) (Started : ℕ → Type 0)
     (config program : List ℕ) (old new : Output) (s : Status) : Type 0 where
   pub course : Course told rose refused Started config program old new s
+  pub says : Says told rose (run_job refused config program) old new s
   -- where it stands for a trace, the headline holds of what was written
   pub headline : is_traced s ≡ true →
       RunHeadline told config program old.told new.told Started s
-  -- a thread was refused only where the count of refused starts rose
-  pub refuses : s ≡ status.ThreadRefused → refused
-  -- a file couldn't be read only where reading failed, or the files lead to that: there is none
-  pub unread : (word : ℕ) → s ≡ status.ReadFault word → rose ⊎
-      IsSomeAnd told (λ files. plant_in files config program ≡ Err (status.ReadFault word))
-  -- writing failed only where the count of its faults rose
-  pub unwritten : s ≡ status.WriteFault → Rose old.count new.count
-  -- what is about a file's text comes exactly where the files lead to it
-  pub of_text : (files : FileMap) (wanted : Status) → told ≡ Some files →
-      is_of_text wanted ≡ true →
-      ComesExactly s wanted (plant_in files config program ≡ Err wanted)
-  -- where the files give a plant and no count rose there is a trace, or memory ran out
-  pub complete : (files : FileMap) → told ≡ Some files →
-      IsOk (plant_in files config program) → (rose → ⊥) → (refused → ⊥) →
-      (Rose old.count new.count → ⊥) → (is_traced s ≡ true) ⊎ (s ≡ status.OutOfMemory)
-  -- and it is one of a run's statuses
-  pub kind : is_of_run s ≡ true

@@ -1,8 +1,8 @@
 -- What the two files of a run give. This project's profile.
-use Rattle.std.specs.Prelude.{◌≡◌, ◌⊎◌, ◌^◌, ℕ, Option, Result, Ok, Err, List, length}
+use Rattle.std.specs.Prelude.{◌≡◌, ◌^◌, ℕ, Option, Result, Ok, Err, List, length}
 use Rattle.std.specs.Arc.{arc_value}
 use Rattle.std.specs.List.{All}
-use Rattle.job_ends.specs.Files.{GivesReading, NoReading}
+use Rattle.job_ends.specs.Files.{GivesReading, NoBoth, NoReading}
 use Rattle.job_ends.specs.declared.status.Status.{Status}
 use Rattle.machine_config.specs.Configured.{Configures}
 use Rattle.machine_config.specs.Reading.{machine_of}
@@ -45,8 +45,8 @@ NoProgram told rose name m old new s =
 -- program
 abbrev pub NoPlant : Option FileMap → Type 0 → List ℕ → List ℕ → Output → Output → Status → Type 0
 NoPlant told rose config program old new s =
-    NoMachine told rose config old new s ⊎
-    ((m : Machine) × GivesMachine told config m × NoProgram told rose program m old new s)
+    NoBoth told rose config program most_bytes most_bytes machine_of Configures
+    (λ (m : Machine). program_of m.cycle_us m.config) old new s
 
 -- a plant is that of a machine and its program, and can be run
 pub record IsPlantOf (m : Machine) (o : Outcome) (plant : Plant) : Type 0 where

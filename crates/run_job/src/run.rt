@@ -15,7 +15,7 @@ use crate::names::RunNames;
 use crate::reading::read_plant;
 use crate::trace::write_run;
 use cia402_machine::statuswords_are_read_back;
-use job_ends::{Status, ends_follow_plans, say_all};
+use job_ends::{Status, say_all};
 use motion_plant::{Plant, PlantFault, PlantJob, run_plant};
 use outside::{Files, Gate, Host, MOST_JOBS, Sink, Spawner};
 use std::alloc::Global;
@@ -43,7 +43,6 @@ pub fn run_files<F: Files, K: Sink, H: Host + Wait, G: Gate + Drop + Send + 'sta
         (record { count = K.count out.new; told = K.told out.new }) result }
     ensures joined { JoinsAll spawner.old.jobs spawner.new.jobs }
 {
-    ends_follow_plans();
     statuswords_are_read_back();
     match read_plant(alloc, names, files, out) {
         Ok(plant) => run_read(rt, alloc, &plant, out, spawner, gate),

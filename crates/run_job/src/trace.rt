@@ -10,7 +10,7 @@ ghost use Rattle.trace_text.specs.Trace.{trace_text};
 ghost use Rattle.trace_text.specs.writing.Writes.{Writes};
 
 use cia402_machine::state_of;
-use job_ends::{Status, ends_follow_plans, status_by};
+use job_ends::{Status, status_by};
 use motion_history::TraceVersion;
 use motion_plant::{PlantEnd, RunEnding, ending_of};
 use outside::Sink;
@@ -28,7 +28,6 @@ pub fn write_run<K: Sink>(alloc: Global, end: &PlantEnd, out: &mut K) -> Status
         (record { count = K.count out.old; told = K.told out.old })
         (record { count = K.count out.new; told = K.told out.new }) result }
 {
-    ends_follow_plans();
     let status = status_of(ending_of(&end.kernel));
     let Ok(rows) = end_rows(alloc, end.drives.as_slice()) else {
         return Status::OutOfMemory;

@@ -3,10 +3,10 @@
 ghost use Rattle.std.specs.Prelude.{◌≡◌, ◌≤◌};
 ghost use Rattle.job_ends.specs.Ends.{EndsBy};
 ghost use Rattle.outside.specs.Faults.{Rose};
-ghost use Rattle.scope_job.specs.Ends.{EndsByScope, EndsByTrace};
-ghost use Rattle.scope_job.specs.Plans.{plan_of_scope};
+ghost use Rattle.scope_job.specs.Ends.{EndsByScope};
+ghost use Rattle.scope_job.specs.Plans.{plan_of_scope, scope_plan};
 
-use job_ends::{Status, ends_follow_plans, read_text, say_refused, status_by};
+use job_ends::{Status, read_text, say_refused, status_by};
 use motion_history::TextFault;
 use out_of_memory::OutOfMemory;
 use outside::{Files, Sink};
@@ -34,7 +34,7 @@ pub fn scope_file<F: Files, K: Sink, H: Threads + Sync>(
         (record { count = K.count out.old; told = K.told out.old })
         (record { count = K.count out.new; told = K.told out.new }) result }
 {
-    ends_follow_plans();
+    reports_say_what_is_asked();
     match read_text(alloc, 1, name, MOST_BYTES, files, out) {
         Ok(text) => scope_text(rt, alloc, name, text.as_slice(), workers, out),
         Err(status) => status,
@@ -51,12 +51,10 @@ fn scope_text<K: Sink, H: Threads + Sync>(
     out: &mut K,
 ) -> Status
     requires some { 1 ≤ workers }
-    ensures { EndsByTrace name.now text.now
-        (record { count = K.count out.old; told = K.told out.old })
-        (record { count = K.count out.new; told = K.told out.new }) result }
+    ensures { EndsBy (record { count = K.count out.old; told = K.told out.old })
+        (record { count = K.count out.new; told = K.told out.new })
+        (scope_plan name.now text.now) result }
 {
-    ends_follow_plans();
-    reports_say_what_is_asked();
     match read_trace(alloc, text) {
         Ok(trace) => scope_trace(rt, alloc, &trace, workers, out),
         Err(TextFault::Refused(refused)) => say_refused(alloc, 1, name, &refused, out),
@@ -77,7 +75,6 @@ fn scope_trace<K: Sink, H: Threads + Sync>(
         (record { count = K.count out.new; told = K.told out.new })
         (plan_of_scope trace.now) result }
 {
-    ends_follow_plans();
     match scope(rt, alloc, trace, workers) {
         Ok(report) => status_by(Status::Ok, write_report(alloc, &report, out)),
         Err(OutOfMemory) => Status::OutOfMemory,

@@ -2,9 +2,9 @@
 -- for: check_trace_segment_text
 use Rattle.std.specs.Prelude.{◌≡◌, ◌⊎◌, refl, ℕ, true, false, Result, Ok, Err, List}
 use Rattle.std.proofs.Common.{◌∙◌, ap, inl, inr, subst, sym}
+use Rattle.job_ends.proofs.PlanLaws.{early}
 use Rattle.job_ends.specs.Causes.{is_fault}
 use Rattle.job_ends.specs.Ends.{EndsBy, EndsEarly}
-use Rattle.job_ends.specs.Follows.{FollowPlans}
 use Rattle.job_ends.specs.Plans.{refused_plan}
 use Rattle.job_ends.specs.declared.status.Status.{Status}
 use Rattle.motion_history.specs.declared.refused.TextFault.{TextFault}
@@ -25,15 +25,15 @@ refused-why reading f r e why =
     let P : TextFault → Type 0 = λ x. ReadsBy reading (Err x) in subst P e why
 
 -- memory ran out before anything was written
-pub early-ended : FollowPlans → (name text : List ℕ) (old new : Output) (s : Status) →
+pub early-ended : (name text : List ℕ) (old new : Output) (s : Status) →
     EndsEarly old new s → EndsByTraceSegment name text old new s
-early-ended follow name text old new s e =
+early-ended name text old new s e =
     let fault : is_fault s ≡ true = ap is_fault e.status in
     record {
       plan = refused_plan 1 name (no_beginning flaw.Counts);
       is = inr e;
       by = record {
-        ends = follow.early old new (refused_plan 1 name (no_beginning flaw.Counts)) s e;
+        ends = early old new (refused_plan 1 name (no_beginning flaw.Counts)) s e;
         told = refl;
         caused = λ f. absurd (let bad : true ≡ false = sym fault ∙ f in cc);
         alone = λ f. absurd (let bad : true ≡ false = sym fault ∙ f in cc);
@@ -56,11 +56,11 @@ refused-ended name text r old new s is e = record {
 }
 
 -- a trace segment that was verified
-pub verified-ended : FollowPlans → (name text : List ℕ) (p : TraceSegment) (old new : Output)
+pub verified-ended : (name text : List ℕ) (p : TraceSegment) (old new : Output)
     (s : Status) → trace_segment_of text ≡ Ok p → EndsByVerdict name p old new s ⊎ EndsEarly old new s →
     EndsByTraceSegment name text old new s
-verified-ended follow name text p old new s is (inr e) = early-ended follow name text old new s e
-verified-ended follow name text p old new s is (inl e) =
+verified-ended name text p old new s is (inr e) = early-ended name text old new s e
+verified-ended name text p old new s is (inl e) =
     let plan = plan_of_verdict name e.verdict in
     record {
       plan = plan;

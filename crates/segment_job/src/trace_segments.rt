@@ -10,7 +10,7 @@ ghost use Rattle.segment_text.specs.reading.Reading as read;
 ghost use Rattle.segment_text.specs.reading.Reading.{ReadsBy};
 
 use crate::lines::legal_text;
-use job_ends::{Status, ends_follow_plans, say, say_refused};
+use job_ends::{Status, say, say_refused};
 use motion_history::{OutOfMemory, Rule, TextFault, TextRefused};
 use outside::Sink;
 use segment_check::{Flaw, Verdict, check_trace_segment};
@@ -82,7 +82,6 @@ pub fn check_trace_segment_text<K: Sink>(
         (record { count = K.count out.old; told = K.told out.old })
         (record { count = K.count out.new; told = K.told out.new }) result }
 {
-    ends_follow_plans();
     match trace_segment_of(alloc, text) {
         Ok(trace_segment) => verify_trace_segment(alloc, name, &trace_segment, out),
         Err(TextFault::Refused(refused)) => say_refused(alloc, 1, name, &refused, out),
@@ -136,7 +135,6 @@ fn say_legal<K: Sink>(alloc: Global, entries: u64, next: &[u8], out: &mut K) -> 
         (record { count = K.count out.new; told = K.told out.new })
         (legal_plan entries next.now) result }
 {
-    ends_follow_plans();
     let text = legal_text(alloc, entries, next);
     say(text, Status::Legal { entries }, out)
 }

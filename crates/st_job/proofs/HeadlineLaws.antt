@@ -1,23 +1,27 @@
 -- What the trace of the job stands for.
 -- for: st_files
-use Rattle.std.specs.Prelude.{◌≡◌, refl, ℕ, true, Option, Some, List, map, slice_get}
-use Rattle.std.proofs.Common.{inl, inr, ap, subst}
+use Rattle.std.specs.Prelude.{◌≡◌, refl, ℕ, false, true, Option, Some, List, map, slice_get}
+use Rattle.std.proofs.Common.{ap}
 use Rattle.bench_run.specs.InStep.{AreInStep}
-use Rattle.job_ends.proofs.Courses.{Planned, kind-by, of-text-by, unread-of, unwritten-of}
-use Rattle.job_ends.proofs.Readings.{none-traced}
+use Rattle.job_ends.proofs.Both.{both-read, both-says, both-there}
+use Rattle.job_ends.proofs.PlanLaws.{traces, traced-unfaulted}
+use Rattle.job_ends.proofs.Statuses.{traced-wordless}
 use Rattle.job_ends.specs.Causes.{is_traced}
-use Rattle.job_ends.specs.Follows.{FollowPlans}
 use Rattle.job_ends.specs.declared.status.Status.{Status}
+use Rattle.machine_config.specs.Configured.{Configures}
+use Rattle.machine_config.specs.Reading.{machine_of}
+use Rattle.machine_config.specs.declared.machine.Machine.{Machine}
 use Rattle.machine_drives.specs.Drives.{drive_end, drives_at_opening}
 use Rattle.motion_history.specs.Entries.{cycles_of}
 use Rattle.outside.specs.Told.{FileMap}
+use Rattle.st_check.specs.Reading.{reading_of}
 use Rattle.st_tree.specs.declared.program.Task.{Task}
 use Rattle.trace_text.specs.writing.Writes.{Output}
-use Rattle.st_job.proofs.CauseLaws.{Traced, complete-by, no-controller, plain, planned, st-kind}
-use Rattle.st_job.specs.Causes.{both_in, is_of_st}
+use Rattle.st_job.proofs.CauseLaws.{program-read, shown}
 use Rattle.st_rounds.specs.Cell.{Cell}
 use Rattle.st_rounds.specs.Controllers.{cell_of}
 use Rattle.st_job.specs.Ends.{Course, EndsByBoth, EndsBySt}
+use Rattle.st_job.specs.Given.{most_bytes}
 use Rattle.st_job.specs.Headline.{StHeadline}
 use Rattle.st_job.specs.Plans.{plan_of}
 use Rattle.st_rounds.specs.Ready.{AreReady}
@@ -32,16 +36,12 @@ pub record RunLaws : Type 0 where
       slice_get c.trees n ≡ Some t →
       IsMadeBy c n t (own_entries c.setup n (run_of c).history)
 
--- ---- where there is no trace
-
--- ---- where there is one
-
-both-headline : FollowPlans → RunLaws → (told : Option FileMap) (config program : List ℕ)
+both-headline : RunLaws → (told : Option FileMap) (config program : List ℕ)
     (old new : Output) (s : Status) → EndsByBoth told config program old new s →
     is_traced s ≡ true → StHeadline told config program old.told new.told s
-both-headline follow laws told config program old new s b t =
+both-headline laws told config program old new s b t =
     let cell = cell_of b.cell in
-    let whole = follow.traces old new (plan_of cell) s b.ends t in
+    let all = traces old new (plan_of cell) s b.ends t in
     let in-step = laws.step cell in
     let traced = b.traced t in
     record {
@@ -65,37 +65,30 @@ both-headline follow laws told config program old new s b t =
       laws = traced.legal.laws;
       drives = drive_ends (run_of cell);
       taken = ap (map (drive_end (cycles_of (run_of cell).history))) in-step.drives;
-      ended = whole.0;
-      written = whole.1;
+      ended = all.0;
+      written = all.1;
       again = traced.again;
     }
 
-pub headline-of : FollowPlans → RunLaws → (told : Option FileMap) (rose : Type 0)
-    (config program : List ℕ) (old new : Output) (s : Status) →
-    Course told rose config program old new s → is_traced s ≡ true →
-    StHeadline told config program old.told new.told s
-headline-of follow laws told rose config program old new s (inl h) t =
-    absurd (none-traced follow told rose (λ files. both_in files config program) old new s
-    (no-controller told rose config program old new s h) t)
-headline-of follow laws told rose config program old new s (inr b) t =
-    both-headline follow laws told config program old new s b t
-
--- all that the end of the job says
-pub ended : FollowPlans → RunLaws → (told : Option FileMap) (rose : Type 0)
-    (config program : List ℕ) (old new : Output) (s : Status) →
-    Course told rose config program old new s → EndsBySt told rose config program old new s
-ended follow laws told rose config program old new s course =
-    let reading = λ (files : FileMap). both_in files config program in
-    let by = planned told rose config program old new s course in
-    let known : (files : FileMap) → told ≡ Some files → Planned (Some files) rose reading Traced old new s =
-    λ files e. subst (λ x. Planned x rose reading Traced old new s) e by in
+-- how the job ended, and what that says
+pub ended : RunLaws → (told : Option FileMap) (rose : Type 0) (config program : List ℕ)
+    (old new : Output) (s : Status) → Course told rose config program old new s →
+    EndsBySt told rose config program old new s
+ended laws told rose config program old new s course =
+    let of_machine = λ (m : Machine). reading_of m.config in
     record {
       course = course;
-      headline = headline-of follow laws told rose config program old new s course;
-      unread = λ word. unread-of follow told rose reading Traced plain old new s word by;
-      unwritten = unwritten-of follow told rose reading Traced plain old new s by;
-      of_text = λ files wanted e t. of-text-by follow files rose reading Traced plain old new s wanted t
-          (known files e);
-      complete = λ files e. complete-by follow files rose config program old new s (known files e);
-      kind = kind-by is_of_st follow told rose reading Traced st-kind old new s by;
+      says = both-says told rose config program most_bytes most_bytes machine_of Configures of_machine
+          (λ given wanted. ⊥) false (λ x. is_traced x ≡ true) _ old new s
+          (λ b. (
+            (b.gives.machine, b.gives.tasks.is.outcome),
+            both-there told config program most_bytes
+                most_bytes machine_of Configures of_machine (λ text o. Unit {0}) b.gives.machine
+                b.gives.tasks.is.outcome b.gives.gives
+                (program-read told program b.gives.machine b.cell b.gives.tasks),
+            shown told config program (b.gives.machine, b.gives.tasks.is.outcome) old new s b,
+          )) course;
+      headline = λ t. both-headline laws told config program old new s
+          (both-read told rose config program most_bytes most_bytes machine_of Configures of_machine _
+          old new s (traced-unfaulted s t) (traced-wordless s t) course) t;
     }

@@ -1,6 +1,6 @@
 -- What the two files of the job give. This project's profile.
-use Rattle.std.specs.Prelude.{◌≡◌, ◌⊎◌, ◌^◌, ℕ, Option, Result, Ok, Err, List}
-use Rattle.job_ends.specs.Files.{GivesReading, IsText, NoReading}
+use Rattle.std.specs.Prelude.{◌≡◌, ◌^◌, ℕ, Option, Result, Ok, Err, List}
+use Rattle.job_ends.specs.Files.{GivesReading, IsText, NoBoth, NoReading}
 use Rattle.job_ends.specs.declared.status.Status.{Status}
 use Rattle.machine_config.specs.Configured.{Configures}
 use Rattle.machine_config.specs.Reading.{machine_of}
@@ -57,8 +57,8 @@ pub record GivesController (told : Option FileMap) (config program : List ℕ) (
 abbrev pub NoController : Option FileMap → Type 0 → List ℕ → List ℕ → Output → Output → Status →
     Type 0
 NoController told rose config program old new s =
-    NoMachine told rose config old new s ⊎
-    ((m : Machine) × GivesMachine told config m × NoProgram told rose program m old new s)
+    NoBoth told rose config program most_bytes most_bytes machine_of Configures
+    (λ (m : Machine). reading_of m.config) old new s
 
 -- the controller of a machine and the program that a text is, or why it is none
 abbrev pub ControllerBy : Machine → List ℕ → Result Controller TextFault → Type 0

@@ -6,7 +6,7 @@ ghost use Rattle.st_job.specs.Ends.{EndsBySt};
 
 use crate::reading::read_controller;
 use crate::trace::run_cell;
-use job_ends::{Status, ends_follow_plans};
+use job_ends::Status;
 use outside::{Files, Sink};
 use st_rounds::{rounds_are_in_step, tasks_make_their_scans};
 use std::alloc::Global;
@@ -26,7 +26,6 @@ pub fn st_files<F: Files, K: Sink>(
         (record { count = K.count out.old; told = K.told out.old })
         (record { count = K.count out.new; told = K.told out.new }) result }
 {
-    ends_follow_plans();
     rounds_are_in_step();
     tasks_make_their_scans();
     match read_controller(alloc, config_name, program_name, files, out) {

@@ -14,7 +14,7 @@ ghost use Rattle.trace_text.specs.Trace.{trace_text};
 ghost use Rattle.trace_text.specs.writing.Writes.{Writes};
 
 use bench_run::{Ran, RunFault};
-use job_ends::{Status, ends_follow_plans, status_by};
+use job_ends::{Status, status_by};
 use machine_drives::{end_rows, positions_have_32_bits};
 use motion_history::TraceVersion;
 use outside::Sink;
@@ -31,7 +31,6 @@ pub fn run_cell<K: Sink>(alloc: Global, cell: &Controller, out: &mut K) -> Statu
         (plans.plan_of (cell_of cell.now)) result }
     ensures traced { is_traced result ≡ true → IsTracedRun (cell_of cell.now) }
 {
-    ends_follow_plans();
     let Ok(ran) = run_rounds(alloc, cell) else {
         return Status::OutOfMemory;
     };

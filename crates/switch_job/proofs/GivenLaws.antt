@@ -1,17 +1,20 @@
 -- Both files are read, one after the other.
 -- for: switch_files
-use Rattle.std.specs.Prelude.{◌≡◌, false, ℕ, Option, List}
+use Rattle.std.specs.Prelude.{◌≡◌, false, ℕ, Option, Err, List}
 use Rattle.std.proofs.Common.{ap, inr, subst, sym}
+use Rattle.job_ends.proofs.Both as both
 use Rattle.job_ends.specs.Causes.{is_fault}
 use Rattle.job_ends.specs.Ends.{EndsBy}
 use Rattle.job_ends.specs.declared.status.Status.{Status}
 use Rattle.outside.specs.Faults.{Rose}
 use Rattle.outside.specs.Told.{FileMap}
+use Rattle.switch_text.specs.Reading.{switches_of}
 use Rattle.trace_text.specs.Held.{IsHeldOf}
+use Rattle.trace_text.specs.reading.Reading.{trace_of}
 use Rattle.trace_text.specs.TraceState.{TraceState}
 use Rattle.trace_text.specs.writing.Writes.{Output}
 use Rattle.switch_job.specs.Ends.{Course}
-use Rattle.switch_job.specs.Given.{GivesSwitches, HoldsBoth, HoldsTrace, NoBoth, NoSwitches, TellsLegal}
+use Rattle.switch_job.specs.Given.{GivesSwitches, HoldsBoth, HoldsTrace, IsTraceText, NoBoth, NoSwitches, TellsLegal, most_of_switches, most_of_trace}
 use Rattle.switch_job.specs.Plans.{plan_of_switches}
 use Rattle.switch_job.specs.declared.reading.Both.{Both}
 
@@ -25,16 +28,10 @@ pub second-none : (told told1 : Option FileMap) (n n1 n2 : ℕ) (trace file : Li
     HoldsTrace told trace t → NoSwitches told1 (Rose n1 n2) file t old1 new s →
     NoBoth told (Rose n n2) trace file old new s
 second-none told told1 n n1 n2 trace file t old old1 new s e1 e2 e3 g h =
-    let first : NoSwitches told (Rose n1 n2) file t old1 new s =
-    subst (λ m. NoSwitches m (Rose n1 n2) file t old1 new s) e1 h in
-    let second : NoSwitches told (Rose n n2) file t old1 new s =
-    subst (λ k. NoSwitches told (Rose k n2) file t old1 new s) e2 first in
-    let third : NoSwitches told (Rose n n2) file t old new s =
-    subst (λ o. NoSwitches told (Rose n n2) file t o new s) e3 second in
-    let whole : NoSwitches told (Rose n n2) file g.whole old new s =
-    subst (λ c. NoSwitches told (Rose n n2) file (record t { config = c }) old new s)
-    (same-config g.whole t g.held_so) third in
-    inr (g.whole, g.gives, whole)
+    both.second-none {C = Both} told told1 n n1 n2 trace file most_of_trace most_of_switches trace_of IsTraceText
+    (λ (x : TraceState). switches_of x.config) g.whole old old1 new (Err s) e1 e2 e3 g.gives
+    (subst (λ c. NoSwitches told1 (Rose n1 n2) file (record t { config = c }) old1 new s)
+    (same-config g.whole t g.held_so) h)
 
 -- where it gives some, they give both
 pub both-held : (told told1 : Option FileMap) (trace file : List ℕ) (b : Both) → told1 ≡ told →

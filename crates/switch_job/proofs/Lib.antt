@@ -1,4 +1,3 @@
 pub mod Verdicts
 pub mod GivenLaws
-pub mod CauseLaws
 pub mod EndLaws

@@ -1,6 +1,7 @@
 -- What the two files of the job give. This project's profile.
 use Rattle.std.specs.Prelude.{◌≡◌, ◌⊎◌, ◌↔◌, ◌^◌, ℕ, Option, None, Ok, List}
 use Rattle.cam_switch.specs.declared.switch.Switch.{Switch}
+use Rattle.job_ends.specs.Files as files
 use Rattle.job_ends.specs.Files.{GivesReading, NoReading}
 use Rattle.job_ends.specs.declared.status.Status.{Status}
 use Rattle.outside.specs.Told.{FileMap}
@@ -63,8 +64,8 @@ pub record HoldsBoth (told : Option FileMap) (trace file : List ℕ) (held : Bot
 -- they don't: the first gives no trace, or it gives one on whose axes the second gives no switches
 abbrev pub NoBoth : Option FileMap → Type 0 → List ℕ → List ℕ → Output → Output → Status → Type 0
 NoBoth told rose trace file old new s =
-    NoTrace told rose trace old new s ⊎
-    ((t : TraceState) × GivesTrace told trace t × NoSwitches told rose file t old new s)
+    files.NoBoth told rose trace file most_of_trace most_of_switches trace_of IsTraceText
+    (λ (t : TraceState). switches_of t.config) old new s
 
 -- that no record of a trace differs says that it is legal, and nothing else says that
 abbrev pub TellsLegal : TraceState → Type 0

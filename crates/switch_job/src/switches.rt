@@ -11,7 +11,7 @@ ghost use Rattle.trace_text.specs.Held.{IsHeldOf};
 ghost use Rattle.trace_text.specs.TraceState.{TraceState};
 
 use crate::reading::read_both;
-use job_ends::{Status, ends_follow_plans, status_by};
+use job_ends::{Status, status_by};
 use motion_history::OutOfMemory;
 use outside::{Files, Sink};
 use std::alloc::Global;
@@ -35,7 +35,6 @@ pub fn switch_files<F: Files, K: Sink>(
         (record { count = K.count out.old; told = K.told out.old })
         (record { count = K.count out.new; told = K.told out.new }) result }
 {
-    ends_follow_plans();
     match read_both(alloc, trace_name, file_name, files, out) {
         Ok(both) => write_both(alloc, &both.trace, &both.switches, out),
         Err(status) => status,
@@ -51,7 +50,6 @@ fn write_both<K: Sink>(alloc: Global, trace: &Trace, switches: &Switches, out: &
     ensures legal { (whole : TraceState) → IsHeldOf whole trace.now →
         is_fault result ≡ false → TellsLegal whole }
 {
-    ends_follow_plans();
     match check(alloc, trace) {
         Ok(Verdict::Legal { .. }) => status_by(
             Status::Ok,

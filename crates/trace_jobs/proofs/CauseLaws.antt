@@ -2,10 +2,10 @@
 -- for: check_text, check_trace, migrate_text and others
 use Rattle.std.specs.Prelude.{◌≡◌, ◌↔◌, refl, ℕ, true, false, Option, Some, None, Result, Ok, Err, List, length}
 use Rattle.std.proofs.Common.{◌∙◌, ap, sym}
+use Rattle.job_ends.proofs.PlanLaws.{whole}
 use Rattle.job_ends.proofs.Refusals.{refused-cause, refused-plan}
 use Rattle.job_ends.specs.Causes.{EndsFor, is_fault, is_told}
 use Rattle.job_ends.specs.Ends.{EndsBy}
-use Rattle.job_ends.specs.Follows.{FollowPlans}
 use Rattle.job_ends.specs.Plans.{plan_of_reading}
 use Rattle.job_ends.specs.declared.status.Status.{Status}
 use Rattle.job_ends.specs.declared.status.Status.TheVariants as status
@@ -98,10 +98,10 @@ check-alone name text law (status.TextRefused word place rule) h =
     refused-plan plan_of_check name (trace_of text) word place rule h
 check-alone name text law other h = absurd h
 
-pub check-for : FollowPlans → (name text : List ℕ) (old new : Output) (s : Status) →
+pub check-for : (name text : List ℕ) (old new : Output) (s : Status) →
     EndsBy old new (check_plan name text) s → JudgesBy (λ t. trace_of text ≡ Ok t) s →
     EndsFor old new (check_plan name text) (CheckCause text) s
-check-for follow name text old new s e verified = record {
+check-for name text old new s e verified = record {
   ends = e;
   told = check-told name (trace_of text);
   caused = λ f. check-caused name text (law f) (trace_of text) refl;
@@ -109,7 +109,7 @@ check-for follow name text old new s e verified = record {
 }
   where
     law : is_fault s ≡ false → LegalIsTold text
-    law f = λ t is. told-by t _ s (follow.whole old new _ s e f).0 (check-tells name text t is)
+    law f = λ t is. told-by t _ s (whole old new _ s e f).0 (check-tells name text t is)
         (verified t is) (difference_in t) refl
 
 -- ---- a text that is migrated
@@ -148,10 +148,10 @@ migrate-alone name text law (status.TextRefused word place rule) h =
     refused-plan plan_of_migrate name (trace_of text) word place rule h
 migrate-alone name text law other h = absurd h
 
-pub migrate-for : FollowPlans → (name text : List ℕ) (old new : Output) (s : Status) →
+pub migrate-for : (name text : List ℕ) (old new : Output) (s : Status) →
     EndsBy old new (migrate_plan name text) s → JudgesBy (λ t. trace_of text ≡ Ok t) s →
     EndsFor old new (migrate_plan name text) (MigrateCause text) s
-migrate-for follow name text old new s e verified = record {
+migrate-for name text old new s e verified = record {
   ends = e;
   told = migrate-told name (trace_of text);
   caused = λ f. migrate-caused name text (law f) (trace_of text) refl;
@@ -159,5 +159,5 @@ migrate-for follow name text old new s e verified = record {
 }
   where
     law : is_fault s ≡ false → LegalIsTold text
-    law f = λ t is. told-by t _ s (follow.whole old new _ s e f).0 (migrate-tells name text t is)
+    law f = λ t is. told-by t _ s (whole old new _ s e f).0 (migrate-tells name text t is)
         (verified t is) (difference_in t) refl

@@ -4,8 +4,6 @@ use Rattle.std.specs.Prelude.{◌≡◌, ◌↔◌, refl, ℕ, Bool, true, false
 use Rattle.std.specs.declared.alloc.AllocError.{AllocError}
 use Rattle.std.proofs.Common.{Vec, Global, ◌∙◌, sym, ap, subst}
 use Rattle.job_ends.specs.Ends.{EndsBy, Says, status_by}
-use Rattle.job_ends.specs.Follows.{FollowPlans}
-use Rattle.job_ends.specs.Plans.{Plan, plan_of_reading, refused_plan}
 use Rattle.job_ends.specs.declared.status.Status.{Status}
 use Rattle.job_ends.specs.declared.status.Status.TheVariants as status
 use Rattle.motion_history.specs.declared.refused.TextFault.{TextFault}
@@ -122,22 +120,6 @@ pub verifies-illegal : (t : TraceState) (v : Verdict) (place : ℕ) (x y : List 
 verifies-illegal t v place x y s is legal n =
     verifies-unfair t s (λ l. let bad = sym is ∙ legal.1 l in absurd (cc bad)) n
 
--- a text that is refused ends by its reading's plan
-pub refused-ends : (old new : Output) (plan : TraceState → Plan) (name : List ℕ)
-    (reading : Result TraceState TextRefused) (r : TextRefused) (s : Status) → reading ≡ Err r →
-    EndsBy old new (refused_plan 1 name r) s →
-    EndsBy old new (plan_of_reading plan 1 name reading) s
-refused-ends old new plan name reading r s e =
-    subst (λ p. EndsBy old new p s) (sym (ap (plan_of_reading plan 1 name) e))
-
--- a trace that is held ends by its reading's plan, and is verified
-pub read-ends : (old new : Output) (plan : TraceState → Plan) (name : List ℕ)
-    (reading : Result TraceState TextRefused) (whole : TraceState) (s : Status) →
-    reading ≡ Ok whole → EndsBy old new (plan whole) s →
-    EndsBy old new (plan_of_reading plan 1 name reading) s
-read-ends old new plan name reading whole s e =
-    subst (λ p. EndsBy old new p s) (sym (ap (plan_of_reading plan 1 name) e))
-
 -- why a text is refused
 pub refused-why : (reading : Result TraceState TextRefused) (f : TextFault) (r : TextRefused) →
     f ≡ Refused r → ReadsHeld reading (Err f) → reading ≡ Err r
@@ -159,18 +141,18 @@ verifies-other IsRead s l i = λ t h. record {
 }
 
 -- so a trace was checked
-pub check-ended : FollowPlans → (name text : List ℕ) (old new : Output) (s : Status) →
+pub check-ended : (name text : List ℕ) (old new : Output) (s : Status) →
     EndsBy old new (check_plan name text) s → JudgesBy (λ t. trace_of text ≡ Ok t) s →
     EndsByCheck name text old new s
-check-ended follow name text old new s e verified =
-    record { by = check-for follow name text old new s e verified; verified = verified }
+check-ended name text old new s e verified =
+    record { by = check-for name text old new s e verified; verified = verified }
 
 -- and so it was migrated
-pub migrate-ended : FollowPlans → (name text : List ℕ) (old new : Output) (s : Status) →
+pub migrate-ended : (name text : List ℕ) (old new : Output) (s : Status) →
     EndsBy old new (migrate_plan name text) s → JudgesBy (λ t. trace_of text ≡ Ok t) s →
     EndsByMigrate name text old new s
-migrate-ended follow name text old new s e verified = record {
-  by = migrate-for follow name text old new s e verified;
+migrate-ended name text old new s e verified = record {
+  by = migrate-for name text old new s e verified;
   verified = verified;
-  migrated = migrated-of follow name text old new s e verified;
+  migrated = migrated-of name text old new s e verified;
 }

@@ -3,9 +3,9 @@
 use Rattle.std.specs.Prelude.{◌≡◌, refl, ℕ, Option, Some, None, Result, Ok, Err, List}
 use Rattle.std.specs.Io.KnownBytes.{Appends}
 use Rattle.std.proofs.Common.{◌∙◌, sym, ap, subst}
+use Rattle.job_ends.proofs.PlanLaws.{whole}
 use Rattle.job_ends.specs.Causes.{is_fault}
 use Rattle.job_ends.specs.Ends.{EndsBy}
-use Rattle.job_ends.specs.Follows.{FollowPlans}
 use Rattle.job_ends.specs.Plans.{plan_of_reading}
 use Rattle.job_ends.specs.declared.status.Status.{Status}
 use Rattle.job_ends.specs.declared.status.Status.TheVariants as status
@@ -23,14 +23,14 @@ use Rattle.trace_jobs.specs.Verified.{JudgesBy, tells_legal}
 use Rattle.trace_jobs.specs.Migrated.{Migrated}
 use Rattle.trace_jobs.specs.Plans.{migrate_plan, migrated_plan, plan_of_migrate}
 
-trace-migrated : FollowPlans → (name text : List ℕ) (old new : Output) (s : Status) (t : TraceState)
+trace-migrated : (name text : List ℕ) (old new : Output) (s : Status) (t : TraceState)
     (o : Option Difference) → trace_of text ≡ Ok t → EndsBy old new (migrated_plan t o) s →
     JudgesBy (λ x. trace_of text ≡ Ok x) s → (files : Option FileMap) → HasFile files name text →
     s ≡ status.Ok → Migrated files name old.told new.told
-trace-migrated follow name text old new s t (Some d) is e verified files file h =
-    let whole = follow.whole old new _ s e (ap is_fault h) in
-    let bad : status.Ok ≡ status.Illegal d.place = sym h ∙ whole.0 in absurd (cc)
-trace-migrated follow name text old new s t None is e verified files file h =
+trace-migrated name text old new s t (Some d) is e verified files file h =
+    let all = whole old new _ s e (ap is_fault h) in
+    let bad : status.Ok ≡ status.Illegal d.place = sym h ∙ all.0 in absurd (cc)
+trace-migrated name text old new s t None is e verified files file h =
     let told = verified t is in
     let legal = told.legal (ap tells_legal h) in
     record {
@@ -44,24 +44,24 @@ trace-migrated follow name text old new s t None is e verified files file h =
       written = subst (λ es. Appends old.told new.told
           (trace_text Two t.command t.config es t.drives))
           (sym (history_is t legal.history legal.legal legal.is))
-          (follow.whole old new _ s e (ap is_fault h)).1;
+          (whole old new _ s e (ap is_fault h)).1;
       again = told.again (ap tells_legal h) legal.history legal.legal legal.is;
     }
 
-read-migrated : FollowPlans → (name text : List ℕ) (old new : Output) (s : Status)
+read-migrated : (name text : List ℕ) (old new : Output) (s : Status)
     (reading : Result TraceState TextRefused) → trace_of text ≡ reading →
     EndsBy old new (plan_of_reading plan_of_migrate 1 name reading) s →
     JudgesBy (λ x. trace_of text ≡ Ok x) s → (files : Option FileMap) → HasFile files name text →
     s ≡ status.Ok → Migrated files name old.told new.told
-read-migrated follow name text old new s (Err r) is e verified files file h =
-    let whole = follow.whole old new _ s e (ap is_fault h) in
-    let bad : status.Ok ≡ status.TextRefused 1 r.place r.rule = sym h ∙ whole.0 in absurd (cc)
-read-migrated follow name text old new s (Ok t) is e verified files file h =
-    trace-migrated follow name text old new s t (difference_in t) is e verified files file h
+read-migrated name text old new s (Err r) is e verified files file h =
+    let all = whole old new _ s e (ap is_fault h) in
+    let bad : status.Ok ≡ status.TextRefused 1 r.place r.rule = sym h ∙ all.0 in absurd (cc)
+read-migrated name text old new s (Ok t) is e verified files file h =
+    trace-migrated name text old new s t (difference_in t) is e verified files file h
 
-pub migrated-of : FollowPlans → (name text : List ℕ) (old new : Output) (s : Status) →
+pub migrated-of : (name text : List ℕ) (old new : Output) (s : Status) →
     EndsBy old new (migrate_plan name text) s → JudgesBy (λ x. trace_of text ≡ Ok x) s →
     (files : Option FileMap) → HasFile files name text → s ≡ status.Ok →
     Migrated files name old.told new.told
-migrated-of follow name text old new s e verified files file h =
-    read-migrated follow name text old new s (trace_of text) refl e verified files file h
+migrated-of name text old new s e verified files file h =
+    read-migrated name text old new s (trace_of text) refl e verified files file h

@@ -11,7 +11,7 @@ ghost use Rattle.trace_text.specs.TraceState.{TraceState};
 ghost use Rattle.trace_text.specs.reading.Reading as read;
 
 use crate::lines::{illegal_lines, legal_line};
-use job_ends::{Status, ends_follow_plans, say, say_refused, status_by};
+use job_ends::{Status, say, say_refused, status_by};
 use motion_history::{OutOfMemory, TextFault, TraceVersion};
 use outside::Sink;
 use std::alloc::Global;
@@ -24,7 +24,6 @@ pub fn check_text<K: Sink>(alloc: Global, name: &str, text: Vec<u8>, out: &mut K
         (record { count = K.count out.old; told = K.told out.old })
         (record { count = K.count out.new; told = K.told out.new }) result }
 {
-    ends_follow_plans();
     match trace_of(alloc, text) {
         Ok(trace) => check_trace(alloc, &trace, out),
         Err(TextFault::Refused(refused)) => say_refused(alloc, 1, name, &refused, out),
@@ -50,7 +49,6 @@ fn check_trace<K: Sink>(alloc: Global, trace: &Trace, out: &mut K) -> Status
         (record { count = K.count out.new; told = K.told out.new })
         (plan_of_check whole) result }
 {
-    ends_follow_plans();
     migrated_traces_are_legal();
     match check(alloc, trace) {
         Ok(Verdict::Legal { entries }) => say_legal(alloc, entries, out),
@@ -79,7 +77,6 @@ pub fn migrate_text<K: Sink>(alloc: Global, name: &str, text: Vec<u8>, out: &mut
         (record { count = K.count out.old; told = K.told out.old })
         (record { count = K.count out.new; told = K.told out.new }) result }
 {
-    ends_follow_plans();
     match trace_of(alloc, text) {
         Ok(trace) => migrate_trace(alloc, &trace, out),
         Err(TextFault::Refused(refused)) => say_refused(alloc, 1, name, &refused, out),
@@ -97,7 +94,6 @@ fn migrate_trace<K: Sink>(alloc: Global, trace: &Trace, out: &mut K) -> Status
         (record { count = K.count out.new; told = K.told out.new })
         (plan_of_migrate whole) result }
 {
-    ends_follow_plans();
     migrated_traces_are_legal();
     match replay(alloc, trace) {
         Ok(Replayed::Legal(kernel)) => {
@@ -124,7 +120,6 @@ fn say_legal<K: Sink>(alloc: Global, entries: u64, out: &mut K) -> Status
         (record { count = K.count out.new; told = K.told out.new })
         (verified_plan entries None) result }
 {
-    ends_follow_plans();
     let line = legal_line(alloc, entries);
     say(line, Status::Legal { entries }, out)
 }
@@ -136,7 +131,6 @@ pub fn say_difference<K: Sink>(alloc: Global, difference: &Difference, out: &mut
         (record { count = K.count out.new; told = K.told out.new })
         (illegal_plan difference.now) result }
 {
-    ends_follow_plans();
     let record = difference.place;
     let lines = illegal_lines(alloc, difference);
     say(lines, Status::Illegal { record }, out)

@@ -1,6 +1,7 @@
 -- The trace of the run was written and is read again, or there was no memory for the run.
 use Rattle.std.proofs.Common.{refl}
-use Rattle.bench_job.proofs.EndLaws.{bench-ends, can-hold, runs-bench, runs-other, traced-run}
+use Rattle.job_ends.proofs.PlanLaws.{early}
+use Rattle.bench_job.proofs.EndLaws.{runs-bench, traced-run}
 use Rattle.bench_job.proofs.bench.run_bench.Goals as goal
 
 pub returns-clause-runs : goal.returns-clause-runs
@@ -11,4 +12,4 @@ returns-clause-runs g c =
 
 pub returns-in_default-clause-ends : goal.returns-in_default-clause-ends
 returns-in_default-clause-ends g c =
-    c.ends_follow_plans.ensures.early _ _ _ _ (record { status = refl; output = refl })
+    early _ _ _ _ (record { status = refl; output = refl })

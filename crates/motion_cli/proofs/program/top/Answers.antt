@@ -31,7 +31,7 @@ returns-in-Ok g c =
     subst (λ a. EndsByRequest told rose refused Started a old new c.serve.result) is_asked c.serve.ensures.ends in
     record {
       ends = inl by;
-      said = said c.ends_follow_plans.ensures c.room_leads_to_ok.ensures told rose refused Started asked
+      said = said c.room_leads_to_ok.ensures told rose refused Started asked
           old new c.serve.result by;
       joined = c.serve.ensures.joined;
       alone = λ none. c.serve.ensures.alone (ap (option_and_then files_of) is_asked ∙ none);
@@ -40,7 +40,8 @@ returns-in-Ok g c =
 pub returns-in-Err : goal.returns-in-Err
 returns-in-Err g c = record {
   ends = inr (record { status = refl; output = refl });
-  said = said-early _ _ _ _ (asked_of c.args.words.now) _ _ _ refl;
+  said = said-early _ _ _ _ (asked_of c.args.words.now) _ _ _
+      (record { status = refl; output = refl });
   joined = (0, sym (append-nil c.args.spawner.now.jobs));
   alone = λ none. refl;
 }

@@ -5,7 +5,7 @@ use Rattle.segment_job.proofs.trace_segments.check_trace_segment_text.Goals as g
 
 pub returns-in-Ok : goal.returns-in-Ok
 returns-in-Ok g c =
-    verified-ended c.ends_follow_plans.ensures _ _ _ _ _ _ c.in-Ok.ensures c.verify_trace_segment.ensures
+    verified-ended _ _ _ _ _ _ c.in-Ok.ensures c.verify_trace_segment.ensures
 
 pub returns-in-Err-Refused : goal.returns-in-Err-Refused
 returns-in-Err-Refused g c =
@@ -15,4 +15,4 @@ returns-in-Err-Refused g c =
 
 pub returns-in-Err-OutOfMemory : goal.returns-in-Err-OutOfMemory
 returns-in-Err-OutOfMemory g c =
-    early-ended c.ends_follow_plans.ensures _ _ _ _ _ (record { status = refl; output = refl })
+    early-ended _ _ _ _ _ (record { status = refl; output = refl })

@@ -1,5 +1,6 @@
 -- The trace of the run was written, or there was no memory for the run.
 use Rattle.std.proofs.Common.{refl}
+use Rattle.job_ends.proofs.PlanLaws.{early}
 use Rattle.job_ends.specs.declared.status.Status.TheVariants as status
 use Rattle.st_rounds.specs.Controllers.{cell_of}
 use Rattle.st_job.proofs.TraceLaws.{traced-run, untraced}
@@ -7,7 +8,7 @@ use Rattle.st_job.proofs.trace.run_cell.Goals as goal
 
 pub returns-in_default-clause-ends : goal.returns-in_default-clause-ends
 returns-in_default-clause-ends g c =
-    c.ends_follow_plans.ensures.early _ _ _ _ (record { status = refl; output = refl })
+    early _ _ _ _ (record { status = refl; output = refl })
 
 pub returns-in_default-clause-traced : goal.returns-in_default-clause-traced
 returns-in_default-clause-traced g c =

@@ -1,6 +1,7 @@
 -- The trace was verified, or there was no memory for it.
 use Rattle.std.specs.Prelude.{None}
 use Rattle.std.proofs.Common.{◌∙◌, ap, refl, sym}
+use Rattle.job_ends.proofs.PlanLaws.{early}
 use Rattle.job_ends.proofs.Statuses.{same-plan}
 use Rattle.trace_check.proofs.LegalLaws.{legal-held}
 use Rattle.trace_check.specs.Legal.{IsLegalTrace}
@@ -42,4 +43,4 @@ returns-in-Ok-IllegalAt-clause-legal g c = λ whole held f.
 
 pub returns-in-Err-clause-ends : goal.returns-in-Err-clause-ends
 returns-in-Err-clause-ends g c = λ whole held.
-    c.ends_follow_plans.ensures.early _ _ _ _ (record { status = refl; output = refl })
+    early _ _ _ _ (record { status = refl; output = refl })

@@ -6,6 +6,7 @@ use Rattle.trace_check.specs.Legal.{IsLegalTrace}
 use Rattle.trace_check.specs.declared.verdict.Verdict.TheVariants as verdict
 use Rattle.trace_text.specs.TraceKept.{IsTraceKept}
 use Rattle.trace_jobs.specs.Plans.{verified_plan}
+use Rattle.job_ends.proofs.PlanLaws.{early}
 use Rattle.job_ends.proofs.Statuses.{same-plan}
 use Rattle.trace_jobs.proofs.EndLaws.{checked, illegal-of, verifies-illegal, verifies-legal, verifies-other, legal-of}
 use Rattle.trace_jobs.proofs.traces.check_trace.Goals as goal
@@ -47,4 +48,4 @@ returns-in-Err-clause-verified g c = λ whole held. verifies-other (λ t. t ≡ 
 
 pub returns-in-Err-clause-ends : goal.returns-in-Err-clause-ends
 returns-in-Err-clause-ends g c = λ whole held.
-    c.ends_follow_plans.ensures.early _ _ _ _ (record { status = refl; output = refl })
+    early _ _ _ _ (record { status = refl; output = refl })

@@ -11,6 +11,7 @@ use Rattle.trace_text.specs.TraceKept.{IsTraceKept}
 use Rattle.trace_jobs.specs.Plans.{plan_of_migrate}
 use Rattle.trace_text.specs.Trace.{trace_text}
 use Rattle.trace_text.specs.writing.Writes.{Output, Writes}
+use Rattle.job_ends.proofs.PlanLaws.{early}
 use Rattle.job_ends.specs.Ends.{EndsBy}
 use Rattle.job_ends.proofs.Statuses.{same-plan}
 use Rattle.trace_jobs.specs.Verified.{tells_illegal}
@@ -86,4 +87,4 @@ returns-in-Err-clause-verified g c = λ whole held. verifies-other (λ t. t ≡ 
 
 pub returns-in-Err-clause-ends : goal.returns-in-Err-clause-ends
 returns-in-Err-clause-ends g c = λ whole held.
-    c.ends_follow_plans.ensures.early _ _ _ _ (record { status = refl; output = refl })
+    early _ _ _ _ (record { status = refl; output = refl })
