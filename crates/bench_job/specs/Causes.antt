@@ -13,7 +13,8 @@ use Rattle.bench_job.specs.Plans.{status_of}
 abbrev pub RunCause : BenchState → Status → Type 0
 RunCause b wanted = status_of (run_of b).ending ≡ wanted
 
--- the cause of each status by the text of word 1: how it is refused, or how the run of its bench ends
+-- the cause of each status by the text of word 1: how it is refused, or how the run of its bench
+-- ends
 abbrev pub BenchCause : List ℕ → Status → Type 0
 BenchCause text wanted = CauseBy (reading_in 1 (bench_of text)) RunCause wanted
 

@@ -23,7 +23,8 @@ unfolding both_by
 first-wanting f g s e = ap (λ r. r >>= λ a. g a >>= λ b. Ok (a, b)) e
 
 -- and where the second is
-second-wanting : {A B : Type 0} (f : Result A Status) (g : A → Result B Status) (a : A) (s : Status) →
+second-wanting : {A B : Type 0} (f : Result A Status) (g : A → Result B Status) (a : A)
+    (s : Status) →
     f ≡ Ok a → g a ≡ Err s → both_by f g ≡ Err s
 unfolding both_by
 second-wanting f g a s is e =
@@ -39,12 +40,14 @@ both-given f g a b is e =
 pub both-there : {A B : Type 0} (told : Option FileMap) (first second : List ℕ) (most next : ℕ)
     (read : List ℕ → Result A TextRefused) (Means : List ℕ → A → Type 0)
     (read_by : A → List ℕ → Result B TextRefused) (MeansBy : List ℕ → B → Type 0) (a : A) (b : B) →
-    GivesReading told first most read Means a → GivesReading told second next (read_by a) MeansBy b →
+    GivesReading told first most read Means a →
+    GivesReading told second next (read_by a) MeansBy b →
     IfSome told (λ files. both_by (file_in most 1 read (files first))
     (λ x. file_in next 2 (read_by x) (files second)) ≡ Ok (a, b))
 both-there None first second most next read Means read_by MeansBy a b g h = tt
 both-there (Some files) first second most next read Means read_by MeansBy a b g h =
-    both-given (file_in most 1 read (files first)) (λ x. file_in next 2 (read_by x) (files second)) a b
+    both-given (file_in most 1 read (files first))
+    (λ x. file_in next 2 (read_by x) (files second)) a b
     (given (Some files) most 1 first read Means a g)
     (given (Some files) next 2 second (read_by a) MeansBy b h)
 
@@ -76,11 +79,14 @@ pub both-says : {A B : Type 0} (told : Option FileMap) (rose : Type 0) (first se
     EndsGiven (both_job first most read second next read_by Cause whole Own) x old new s) →
     NoBoth told rose first second most next read Means read_by old new s ⊎ Ends →
     Says told rose (both_job first most read second next read_by Cause whole Own) old new s
-both-says told rose first second most next read Means read_by Cause whole Own Ends old new s show (inl h) =
+both-says told rose first second most next read Means read_by Cause whole Own Ends old new s show
+    (inl h) =
     says told rose (both_job first most read second next read_by Cause whole Own) old new s
     (inl (no-both told rose first second most next read Means read_by old new s h))
-both-says told rose first second most next read Means read_by Cause whole Own Ends old new s show (inr e) =
-    says told rose (both_job first most read second next read_by Cause whole Own) old new s (inr (show e))
+both-says told rose first second most next read Means read_by Cause whole Own Ends old new s show
+    (inr e) =
+    says told rose (both_job first most read second next read_by Cause whole Own) old new s
+    (inr (show e))
 
 -- where it ended with a status that is about no file and no fault, both were given
 pub both-read : {A B : Type 0} (told : Option FileMap) (rose : Type 0) (first second : List ℕ)
@@ -101,8 +107,10 @@ pub second-none : {A B C : Type 0} (told told1 : Option FileMap) (n n1 n2 : ℕ)
     GivesReading told first most read Means a →
     IfErr r (NoReading told1 (Rose n1 n2) 2 second next (read_by a) old1 new) →
     IfErr r (NoBoth told (Rose n n2) first second most next read Means read_by old new)
-second-none told told1 n n1 n2 first second most next read Means read_by a old old1 new (Ok c) e1 e2 e3 g h = h
-second-none told told1 n n1 n2 first second most next read Means read_by a old old1 new (Err s) e1 e2 e3 g h =
+second-none told told1 n n1 n2 first second most next read Means read_by a old old1 new
+    (Ok c) e1 e2 e3 g h = h
+second-none told told1 n n1 n2 first second most next read Means read_by a old old1 new
+    (Err s) e1 e2 e3 g h =
     inr (
       a,
       g,

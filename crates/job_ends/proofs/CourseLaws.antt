@@ -76,17 +76,20 @@ unwritten told rose j old new s (inr (a, is, g)) h =
 
 -- ---- each status that the files decide comes exactly of its cause
 
-reported-comes : {A : Type 0} (files : FileMap) (rose : Type 0) (reading : FileMap → Result A Status)
+reported-comes : {A : Type 0} (files : FileMap) (rose : Type 0)
+    (reading : FileMap → Result A Status)
     (Cause : A → Status → Type 0) (s p wanted : Status) (R : Type 0) → Statuses s p R →
     is_fault wanted ≡ false → ComesExactly s wanted (p ≡ wanted) →
-    IsReportOf (Some files) rose reading p → ComesExactly s wanted (CauseBy (reading files) Cause wanted)
+    IsReportOf (Some files) rose reading p →
+    ComesExactly s wanted (CauseBy (reading files) Cause wanted)
 reported-comes files rose reading Cause s (status.ReadFault word) wanted R by f c is =
     faulted s wanted _ f (fault-stays s (status.ReadFault word) R by refl)
 reported-comes files rose reading Cause s p wanted R by f c is =
     subst (λ x. ComesExactly s wanted (CauseBy x Cause wanted)) (sym is) c
 
 given-comes : (j : Job) (a : j.Given) (old new : Output) (s wanted : Status) →
-    decides j.whole wanted ≡ true → EndsGiven j a old new s → ComesExactly s wanted (j.Cause a wanted)
+    decides j.whole wanted ≡ true → EndsGiven j a old new s →
+    ComesExactly s wanted (j.Cause a wanted)
 given-comes j a old new s wanted d g = elim (cases_Bool (is_fault s)) [
   | inl t ↦ faulted s wanted (j.Cause a wanted) (decided-unfaulted j.whole wanted d) t
   | inr n ↦ let c = comes old new g.plan s wanted g.ends (decided-unfaulted j.whole wanted d) in
@@ -117,7 +120,8 @@ unfailed : (s : Status) (rose writing : Type 0) (Lack : ℕ → Type 0) →
     ((word : ℕ) → s ≡ status.ReadFault word → rose ⊎ Lack word) →
     (s ≡ status.WriteFault → writing) → ((word : ℕ) → Lack word → ⊥) → (rose → ⊥) →
     (writing → ⊥) → (is_fault s ≡ false) ⊎ (s ≡ status.OutOfMemory)
-unfailed (status.ReadFault word) rose writing Lack read write none r w = absurd (by (read word refl))
+unfailed (status.ReadFault word) rose writing Lack read write none r w =
+    absurd (by (read word refl))
   where
     by : rose ⊎ Lack word → ⊥
     by (inl h) = r h
@@ -127,7 +131,8 @@ unfailed status.OutOfMemory rose writing Lack read write none r w = inr refl
 unfailed s rose writing Lack read write none r w = inl refl
 
 -- a report of files that give something comes of a read that failed
-reported-given : {A : Type 0} (files : FileMap) (rose : Type 0) (reading : FileMap → Result A Status)
+reported-given : {A : Type 0} (files : FileMap) (rose : Type 0)
+    (reading : FileMap → Result A Status)
     (p : Status) → IsReportOf (Some files) rose reading p → IsOk (reading files) → (rose → ⊥) → ⊥
 reported-given files rose reading (status.ReadFault word) (inl h) there r = r h
 reported-given files rose reading (status.ReadFault word) (inr is) there r =
@@ -200,7 +205,8 @@ pub none-given : {A : Type 0} (told : Option FileMap) (rose : Type 0) (files : �
     (reading : FileMap → Result A Status) (old new : Output) (s : Status) →
     EndsEarly old new s ⊎ EndsReported told rose files reading old new s → is_fault s ≡ false →
     word_of s ≡ 0 → ⊥
-none-given told rose files reading old new s (inl e) f n = apart is_fault s s (ap is_fault e.status) f refl
+none-given told rose files reading old new s (inl e) f n =
+    apart is_fault s s (ap is_fault e.status) f refl
 none-given told rose files reading old new s (inr r) f n =
     let same = (comes old new r.plan s s r.ends f).only refl in
     wordless files r.plan.status (ap word_of same ∙ n) r.about

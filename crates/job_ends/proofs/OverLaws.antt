@@ -21,7 +21,8 @@ use Rattle.job_ends.specs.declared.status.Status.{Status}
 pub text-says : (told : Option FileMap) (rose : Type 0) (name : List ℕ) (most : ℕ)
     (Cause : List ℕ → Status → Type 0) (Ends : List ℕ → Type 0) (old new : Output) (s : Status) →
     ((text : List ℕ) → Ends text → EndsGiven (text_job name most Cause) text old new s) →
-    EndsByText told rose name most Ends old new s → Says told rose (text_job name most Cause) old new s
+    EndsByText told rose name most Ends old new s →
+    Says told rose (text_job name most Cause) old new s
 text-says told rose name most Cause Ends old new s show (inl h) =
     says told rose (text_job name most Cause) old new s
     (inl (no-text told rose 1 most 1 name _ old new s (lit< tt) (lit≤ tt) (λ files is x e. e) h))
@@ -64,7 +65,8 @@ pub file-says : {A : Type 0} (told : Option FileMap) (rose : Type 0) (name : Lis
     Says told rose (file_job name most read Cause Own) old new s
 file-says told rose name most read Cause Own Ends old new s show (inl h) =
     says told rose (file_job name most read Cause Own) old new s
-    (inl (no-reading told rose 1 most 1 name read _ old new s (lit< tt) (lit≤ tt) (λ files is x e. e) h))
+    (inl (no-reading told rose 1 most 1 name read _ old new s (lit< tt) (lit≤ tt)
+    (λ files is x e. e) h))
 file-says told rose name most read Cause Own Ends old new s show (inr (a, g, e)) =
     says told rose (file_job name most read Cause Own) old new s
     (inr (a, given told most 1 name read (λ text x. Unit {0}) a g, show a e))
@@ -77,12 +79,14 @@ pub file-read : {A : Type 0} (told : Option FileMap) (rose : Type 0) (name : Lis
     EndsByFile told rose name most read Ends old new s → Said
 file-read told rose name most read Ends old new s Said f n say (inl h) =
     absurd (none-given told rose 1 (λ files. file_in most 1 read (files name)) old new s
-    (no-reading told rose 1 most 1 name read _ old new s (lit< tt) (lit≤ tt) (λ files is x e. e) h) f n)
+    (no-reading told rose 1 most 1 name read _ old new s (lit< tt) (lit≤ tt)
+    (λ files is x e. e) h) f n)
 file-read told rose name most read Ends old new s Said f n say (inr (a, g, e)) =
     say a g.text g.is_text g.read e
 
 -- a job that ended by the plan of its text's reading
-pub by-reading : {A : Type 0} (told : Option FileMap) (rose : Type 0) (name text : List ℕ) (most : ℕ)
+pub by-reading : {A : Type 0} (told : Option FileMap) (rose : Type 0) (name text : List ℕ)
+    (most : ℕ)
     (read : List ℕ → Result A TextRefused) (plan : A → Plan) (old new : Output) (s : Status)
     (r : Result A TextRefused) → IsText told name most text → read text ≡ r →
     EndsBy old new (plan_of_reading plan 1 name r) s →
@@ -97,7 +101,8 @@ by-reading told rose name text most read plan old new s (Err r) is e ends =
 -- a text that is refused ends by its reading's plan
 pub refused-ends : {A : Type 0} (old new : Output) (plan : A → Plan) (name : List ℕ)
     (reading : Result A TextRefused) (r : TextRefused) (s : Status) → reading ≡ Err r →
-    EndsBy old new (refused_plan 1 name r) s → EndsBy old new (plan_of_reading plan 1 name reading) s
+    EndsBy old new (refused_plan 1 name r) s →
+    EndsBy old new (plan_of_reading plan 1 name reading) s
 refused-ends old new plan name reading r s e =
     subst (λ p. EndsBy old new p s) (sym (ap (plan_of_reading plan 1 name) e))
 

@@ -67,7 +67,8 @@ given (Some files) most word name read Means x g =
 -- where known files lead to a report, so does another reading of them
 abbrev pub LeadsOn : {A B : Type 0} → Option FileMap → (FileMap → Result A Status) →
     (FileMap → Result B Status) → Type 0
-LeadsOn told f g = (files : FileMap) → told ≡ Some files → (x : Status) → f files ≡ Err x → g files ≡ Err x
+LeadsOn told f g = (files : FileMap) → told ≡ Some files → (x : Status) → f files ≡ Err x →
+    g files ≡ Err x
 
 lacked : {A : Type 0} (told : Option FileMap) (rose : Type 0) (most word : ℕ) (name : List ℕ)
     (reading : FileMap → Result A Status) →

@@ -55,4 +55,5 @@ same-plan old new p q s e w = let P : Plan → Type 0 = λ x. EndsBy old new x s
 -- a plan that stands for no trace
 pub untraced : (old new : Output) (p : Plan) (s : Status) → EndsBy old new p s →
     is_traced p.status ≡ false → is_traced s ≡ true → ⊥
-untraced old new p s e n t = let same = (traces old new p s e t).0 in apart is_traced s p.status t n same
+untraced old new p s e n t =
+    let same = (traces old new p s e t).0 in apart is_traced s p.status t n same

@@ -133,7 +133,8 @@ pub record Says (told : Option FileMap) (rose : Type 0) (j : Job) (old new : Out
     : Type 0 where
   -- each status that the files decide comes exactly of its cause
   pub comes : (files : FileMap) (wanted : Status) → told ≡ Some files →
-      decides j.whole wanted ≡ true → ComesExactly s wanted (CauseBy (j.reading files) j.Cause wanted)
+      decides j.whole wanted ≡ true →
+      ComesExactly s wanted (CauseBy (j.reading files) j.Cause wanted)
   -- a file couldn't be read only where reading failed, or the files lack it
   pub read_fault : (word : ℕ) → s ≡ status.ReadFault word → rose ⊎
       IsSomeAnd told (λ files. j.reading files ≡ Err (status.ReadFault word))

@@ -57,11 +57,12 @@ EndsByText told rose name most Ends old new s =
     NoText told rose 1 name most old new s ⊎
     ((text : List ℕ) × IsText told name most text × Ends text)
 
--- two files don't give what is read in them: the first gives no reading, or it gives one by which the
--- second gives none
+-- two files don't give what is read in them: the first gives no reading, or it gives one by which
+-- the second gives none
 abbrev pub NoBoth : {A B : Type 0} → Option FileMap → Type 0 → (first second : List ℕ) →
     (most next : ℕ) → (List ℕ → Result A TextRefused) → (List ℕ → A → Type 0) →
     (A → List ℕ → Result B TextRefused) → Output → Output → Status → Type 0
 NoBoth {A = A} told rose first second most next read Means read_by old new s =
     NoReading told rose 1 first most read old new s ⊎
-    ((a : A) × GivesReading told first most read Means a × NoReading told rose 2 second next (read_by a) old new s)
+    ((a : A) × GivesReading told first most read Means a ×
+    NoReading told rose 2 second next (read_by a) old new s)

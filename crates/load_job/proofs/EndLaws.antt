@@ -1,6 +1,6 @@
 -- How the job ends, from what its parts did.
 -- for: run_load
-use Rattle.std.specs.Prelude.{◌≡◌, refl, ℕ, true, false, Result, Ok, List, length}
+use Rattle.std.specs.Prelude.{◌≡◌, refl, ℕ, Result, Ok, List, length}
 use Rattle.std.proofs.Common.{◌∙◌, sym, ap, subst}
 use Rattle.bench_run.specs.Enough.{HasRoom}
 use Rattle.bench_run.specs.Going.{run_at}

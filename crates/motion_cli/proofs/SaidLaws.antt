@@ -201,7 +201,8 @@ said law told rose unstarted Started (Some (of_tasks r)) old new s e =
     said-of told rose unstarted Started (of_tasks r) old new s e.headline e.says (λ gives f u w.
     let k = known-files told _ gives in e.says.given k.0 k.1 k.2 f w)
 said law told rose unstarted Started (Some (of_report (of_switches trace switches))) old new s e =
-    said-of told rose unstarted Started (of_report (of_switches trace switches)) old new s e.switched
+    said-of told rose unstarted Started (of_report (of_switches trace switches)) old new s
+    e.switched
     e.says (λ gives f u w. absurd gives)
 said law told rose unstarted Started (Some (of_report (of_scope trace))) old new s e =
     said-of told rose unstarted Started (of_report (of_scope trace)) old new s e.scoped e.says

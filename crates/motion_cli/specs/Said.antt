@@ -23,16 +23,17 @@ use Rattle.switch_job.specs.Switched.{Switched}
 use Rattle.trace_jobs.specs.Migrated.{Migrated}
 use Rattle.trace_text.specs.writing.Writes.{Output}
 
--- what was written stands for: a trace for `bench` is that of a bench, and on Ok `migrate` wrote the
--- trace that was read, in version 2
-abbrev pub FileStands : Option FileMap → Job → List ℕ → Option (List ℕ) → Option (List ℕ) → Status → Type 0
+-- what was written stands for: a trace for `bench` is that of a bench, and on Ok `migrate` wrote
+-- the trace that was read, in version 2
+abbrev pub FileStands : Option FileMap → Job → List ℕ → Option (List ℕ) → Option (List ℕ) →
+    Status → Type 0
 FileStands told Bench name old new s = is_traced s ≡ true → Headline told name old new
 FileStands told Check name old new s = Unit {0}
 FileStands told Migrate name old new s = s ≡ status.Ok → Migrated told name old new
 
--- a trace for `run` is that of a run, and for `st` that of tasks in Structured Text; on Ok `gen` wrote
--- the line of the load that the seed generates, `switches` the edges of the switches in a legal trace,
--- and `scope` the report of a trace
+-- a trace for `run` is that of a run, and for `st` that of tasks in Structured Text; on Ok `gen`
+-- wrote the line of the load that the seed generates, `switches` the edges of the switches in a
+-- legal trace, and `scope` the report of a trace
 abbrev pub Stands : Option FileMap → (ℕ → Type 0) → Request → Option (List ℕ) →
     Option (List ℕ) → Status → Type 0
 Stands told Started (of_file r) old new s = FileStands told r.job r.name old new s
@@ -46,7 +47,8 @@ Stands told Started (of_report (of_switches trace switches)) old new s =
 Stands told Started (of_report (of_scope trace)) old new s =
     s ≡ status.Ok → Scoped told trace old new
 
--- the files give what can be run to an end: a bench with room enough, a plant, tasks; a load needs none
+-- the files give what can be run to an end: a bench with room enough, a plant, tasks; a load needs
+-- none
 abbrev pub GivesRun : Option FileMap → Request → Type 0
 GivesRun told (of_file r) = IsSomeAnd told (λ files. IsSomeAnd (files r.name) (HasRoom r.job))
 GivesRun told (of_run r) =
@@ -72,8 +74,8 @@ pub record IsSaidOf (told : Option FileMap) (rose unstarted : Type 0) (Started :
     (r : Request) (old new : Output) (s : Status) : Type 0 where
   -- what was written stands for what was asked
   pub written : Stands told Started r old.told new.told s
-  -- each status that the files decide comes exactly of its cause, a fault only where one was, and no
-  -- status but the request's, so never Usage
+  -- each status that the files decide comes exactly of its cause, a fault only where one was, and
+  -- no status but the request's, so never Usage
   pub says : Says told rose (job_of unstarted r) old new s
   -- a thread was refused
   pub thread_refused : s ≡ status.ThreadRefused → unstarted
@@ -82,7 +84,8 @@ pub record IsSaidOf (told : Option FileMap) (rose unstarted : Type 0) (Started :
       (Rose old.count new.count → ⊥) → RanToEnd r s ⊎ (s ≡ status.OutOfMemory)
 
 -- words that are no request end with Usage, or writing its line failed, or memory ran out
-abbrev pub IsSaid : Option FileMap → Type 0 → Type 0 → (ℕ → Type 0) → Option Request → Output → Output → Status → Type 0
+abbrev pub IsSaid : Option FileMap → Type 0 → Type 0 → (ℕ → Type 0) → Option Request → Output →
+    Output → Status → Type 0
 IsSaid told rose unstarted Started None old new s = (s ≡ status.Usage) ⊎
     (((s ≡ status.WriteFault) × Rose old.count new.count) ⊎ (s ≡ status.OutOfMemory))
 IsSaid told rose unstarted Started (Some r) old new s =

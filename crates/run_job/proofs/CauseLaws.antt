@@ -54,7 +54,8 @@ pub shown : (refused : Type 0) (Started : ℕ → Type 0) (config program : List
 shown refused Started config program x setup tasks drives old new s (inl h) =
     let t = ended-traced h.writes.status setup h.history h.writes.ended in
     of-plan refused config program x old new
-    (plans.run_plan h.writes.status setup h.history (map plans.end_row h.logs)) s h.writes.ends (inr t)
+    (plans.run_plan h.writes.status setup h.history (map plans.end_row h.logs)) s h.writes.ends
+    (inr t)
     (traced-unfaulted h.writes.status t) (traced-no-text h.writes.status t)
 shown refused Started config program x setup tasks drives old new s (inr (inl h)) =
     of-plan refused config program x old new plans.no_thread_plan s h.1 (inl (refl, h.0)) refl refl

@@ -86,17 +86,22 @@ ended back told rose refused Started config program old new s course =
     let of_machine = λ (m : Machine). program_of m.cycle_us m.config in
     record {
       course = course;
-      says = both-says told rose config program most_bytes most_bytes machine_of Configures of_machine
-          (λ given wanted. ⊥) false (λ x. ((x ≡ status.ThreadRefused) × refused) ⊎ (is_traced x ≡ true))
+      says = both-says told rose config program most_bytes most_bytes machine_of Configures
+          of_machine
+          (λ given wanted. ⊥) false
+          (λ x. ((x ≡ status.ThreadRefused) × refused) ⊎ (is_traced x ≡ true))
           _ old new s
           (λ b. (
             (b.machine, b.outcome),
             both-there told config program most_bytes most_bytes machine_of
-                Configures of_machine (IsProgramOfMachine b.machine) b.machine b.outcome b.gives b.tasks,
-            shown refused Started config program (b.machine, b.outcome) b.outcome.setup b.outcome.program
+                Configures of_machine (IsProgramOfMachine b.machine) b.machine b.outcome b.gives
+                b.tasks,
+            shown refused Started config program (b.machine, b.outcome) b.outcome.setup
+                b.outcome.program
                 b.machine.drives old new s b.ends,
           )) course;
       headline = λ t. both-headline back told refused Started config program old new s
-          (both-read told rose config program most_bytes most_bytes machine_of Configures of_machine _
+          (both-read told rose config program most_bytes most_bytes machine_of Configures
+          of_machine _
           old new s (traced-unfaulted s t) (traced-wordless s t) course) t;
     }

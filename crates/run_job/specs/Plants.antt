@@ -37,7 +37,8 @@ abbrev pub GivesProgram : Option FileMap → List ℕ → Machine → Outcome �
 GivesProgram told name m o =
     GivesReading told name most_bytes (program_of m.cycle_us m.config) (IsProgramOfMachine m) o
 
-abbrev pub NoProgram : Option FileMap → Type 0 → List ℕ → Machine → Output → Output → Status → Type 0
+abbrev pub NoProgram : Option FileMap → Type 0 → List ℕ → Machine → Output → Output → Status →
+    Type 0
 NoProgram told rose name m old new s =
     NoReading told rose 2 name most_bytes (program_of m.cycle_us m.config) old new s
 

@@ -37,7 +37,8 @@ pub ended : ((t : TraceState) → SaysOfEach t) → (told : Option FileMap) (ros
 ended says told rose name old new s course = record {
   course = course;
   says = file-says told rose name most_bytes trace_of _ _ _ old new s (shown name old new s) course;
-  scoped = λ h. file-read told rose name most_bytes trace_of _ old new s _ (ap is_fault h) (ap word_of h)
+  scoped = λ h. file-read told rose name most_bytes trace_of _ old new s _ (ap is_fault h)
+      (ap word_of h)
       (λ t text is read e. record {
         text = text;
         trace = t;
@@ -55,6 +56,7 @@ pub text-ended : ((t : TraceState) → SaysOfEach t) → (told : Option FileMap)
     EndsByScope told rose name old new s
 text-ended says told rose name text read old mid new s same is t e =
     ended says told rose name old new s
-    (by-reading told rose name text most_bytes trace_of plan_of_scope old new s (trace_of text) t refl
+    (by-reading told rose name text most_bytes trace_of plan_of_scope old new s
+    (trace_of text) t refl
     (subst (λ x. EndsBy old new (scope_plan name x) s) is
     (subst (λ o. EndsBy o new (scope_plan name read) s) same e)))

@@ -15,7 +15,8 @@ use Rattle.scope_job.specs.Scoped.{Scoped}
 -- the file gives no trace, or it gives one, and the job ended by the plan of the trace
 abbrev pub Course : Option FileMap → Type 0 → List ℕ → Output → Output → Status → Type 0
 Course told rose name old new s =
-    EndsByFile told rose name most_bytes trace_of (λ t. EndsBy old new (plan_of_scope t) s) old new s
+    EndsByFile told rose name most_bytes trace_of
+    (λ t. EndsBy old new (plan_of_scope t) s) old new s
 
 -- how the job ends by its file, and what that says of its status
 pub record EndsByScope (told : Option FileMap) (rose : Type 0) (name : List ℕ) (old new : Output)

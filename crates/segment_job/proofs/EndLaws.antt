@@ -57,7 +57,8 @@ refused-ended name text r old new s is e = record {
 
 -- a trace segment that was verified
 pub verified-ended : (name text : List ℕ) (p : TraceSegment) (old new : Output)
-    (s : Status) → trace_segment_of text ≡ Ok p → EndsByVerdict name p old new s ⊎ EndsEarly old new s →
+    (s : Status) → trace_segment_of text ≡ Ok p → EndsByVerdict name p old new s ⊎ EndsEarly old
+    new s →
     EndsByTraceSegment name text old new s
 verified-ended name text p old new s is (inr e) = early-ended name text old new s e
 verified-ended name text p old new s is (inl e) =

@@ -46,6 +46,7 @@ shown told config program x old new s b =
       ends = b.ends;
       own = t;
       unfaulted = traced-unfaulted plan.status t;
-      caused = λ f d. absurd (apart is_of_text plan.status plan.status d (traced-no-text plan.status t) refl);
+      caused = λ f d. absurd (apart is_of_text plan.status plan.status d
+          (traced-no-text plan.status t) refl);
       alone = λ f other d c. absurd c;
     }

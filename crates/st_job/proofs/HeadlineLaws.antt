@@ -78,7 +78,8 @@ ended laws told rose config program old new s course =
     let of_machine = λ (m : Machine). reading_of m.config in
     record {
       course = course;
-      says = both-says told rose config program most_bytes most_bytes machine_of Configures of_machine
+      says = both-says told rose config program most_bytes most_bytes machine_of Configures
+          of_machine
           (λ given wanted. ⊥) false (λ x. is_traced x ≡ true) _ old new s
           (λ b. (
             (b.gives.machine, b.gives.tasks.is.outcome),
@@ -89,6 +90,7 @@ ended laws told rose config program old new s course =
             shown told config program (b.gives.machine, b.gives.tasks.is.outcome) old new s b,
           )) course;
       headline = λ t. both-headline laws told config program old new s
-          (both-read told rose config program most_bytes most_bytes machine_of Configures of_machine _
+          (both-read told rose config program most_bytes most_bytes machine_of Configures
+          of_machine _
           old new s (traced-unfaulted s t) (traced-wordless s t) course) t;
     }

@@ -1,6 +1,6 @@
 -- How the job ends, and what that says of its status.
 -- for: switch_files
-use Rattle.std.specs.Prelude.{◌≡◌, ◌⊎◌, refl, ℕ, true, false, Option, Some, None, List}
+use Rattle.std.specs.Prelude.{◌≡◌, refl, ℕ, true, false, Option, Some, None, List}
 use Rattle.std.specs.Io.KnownBytes.{Appends}
 use Rattle.std.proofs.Common.{◌∙◌, sym, ap, subst}
 use Rattle.cam_switch.specs.declared.switch.Switch.{Switch}
@@ -15,10 +15,11 @@ use Rattle.switch_text.specs.Reading.{switches_of}
 use Rattle.switch_text.specs.Spelled.{IsSwitchText}
 use Rattle.trace_check.specs.Progress.{difference_in}
 use Rattle.trace_check.specs.declared.difference.Difference.{Difference}
+use Rattle.trace_jobs.specs.Causes.{LegalCause}
 use Rattle.trace_text.specs.reading.Reading.{trace_of}
 use Rattle.trace_text.specs.TraceState.{TraceState}
 use Rattle.trace_text.specs.writing.Writes.{Output}
-use Rattle.switch_job.specs.Causes.{SwitchCause, is_of_both, switch_job}
+use Rattle.switch_job.specs.Causes.{is_of_both, switch_job}
 use Rattle.switch_job.specs.Ends.{Course, EndsByBoth, EndsBySwitches}
 use Rattle.switch_job.specs.Given.{IsTraceText, TellsLegal, most_of_switches, most_of_trace}
 use Rattle.switch_job.specs.Plans.{plan_of_switches, switched_plan}
@@ -38,11 +39,11 @@ unfaulted t ss (Some d) = refl
 
 -- where no record differs the trace is legal, else it is not
 caused : (t : TraceState) (ss : List Switch) (o : Option Difference) → TellsLegal t →
-    difference_in t ≡ o → SwitchCause t (switched_plan t ss o).status
+    difference_in t ≡ o → LegalCause t (switched_plan t ss o).status
 caused t ss None law d = law.0 d
 caused t ss (Some x) law d = record { difference = x; first = d; place_is = refl }
 
-alone : (t : TraceState) (ss : List Switch) (other : Status) → TellsLegal t → SwitchCause t other →
+alone : (t : TraceState) (ss : List Switch) (other : Status) → TellsLegal t → LegalCause t other →
     (plan_of_switches t ss).status ≡ other
 alone t ss status.Ok law c = ap (λ o. (switched_plan t ss o).status) (law.1 c)
 alone t ss (status.Illegal place) law c =
@@ -103,11 +104,12 @@ ended told rose trace file old new s course =
     record {
       course = course;
       says = both-says told rose trace file most_of_trace most_of_switches trace_of IsTraceText axes
-          (λ given. SwitchCause given.0) true (λ x. is_of_both x ≡ true) _ old new s
+          (λ given. LegalCause given.0) true (λ x. is_of_both x ≡ true) _ old new s
           (λ b. (
             (b.both.trace, b.both.switches),
             both-there told trace file most_of_trace
-                most_of_switches trace_of IsTraceText axes (IsSwitchText b.both.trace.config) b.both.trace
+                most_of_switches trace_of IsTraceText axes (IsSwitchText b.both.trace.config)
+                b.both.trace
                 b.both.switches b.gives.gives b.gives.switches,
             shown told trace file old new s b,
           )) course;

@@ -28,8 +28,10 @@ pub second-none : (told told1 : Option FileMap) (n n1 n2 : ℕ) (trace file : Li
     HoldsTrace told trace t → NoSwitches told1 (Rose n1 n2) file t old1 new s →
     NoBoth told (Rose n n2) trace file old new s
 second-none told told1 n n1 n2 trace file t old old1 new s e1 e2 e3 g h =
-    both.second-none {C = Both} told told1 n n1 n2 trace file most_of_trace most_of_switches trace_of IsTraceText
-    (λ (x : TraceState). switches_of x.config) g.whole old old1 new (Err s) e1 e2 e3 g.gives
+    both.second-none {C = Both} told told1 n n1 n2 trace file most_of_trace most_of_switches
+    trace_of
+    IsTraceText (λ (x : TraceState). switches_of x.config) g.whole old old1 new (Err s) e1 e2 e3
+    g.gives
     (subst (λ c. NoSwitches told1 (Rose n1 n2) file (record t { config = c }) old1 new s)
     (same-config g.whole t g.held_so) h)
 

@@ -1,5 +1,5 @@
 -- What the two files of the job give. This project's profile.
-use Rattle.std.specs.Prelude.{◌≡◌, ◌⊎◌, ◌↔◌, ◌^◌, ℕ, Option, None, Ok, List}
+use Rattle.std.specs.Prelude.{◌≡◌, ◌↔◌, ◌^◌, ℕ, Option, None, Ok, List}
 use Rattle.cam_switch.specs.declared.switch.Switch.{Switch}
 use Rattle.job_ends.specs.Files as files
 use Rattle.job_ends.specs.Files.{GivesReading, NoReading}

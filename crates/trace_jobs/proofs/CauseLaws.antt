@@ -3,10 +3,11 @@
 use Rattle.std.specs.Prelude.{◌≡◌, ◌↔◌, refl, ℕ, true, false, Option, Some, None, Result, Ok, Err, List, length}
 use Rattle.std.proofs.Common.{◌∙◌, ap, sym}
 use Rattle.job_ends.proofs.PlanLaws.{whole}
-use Rattle.job_ends.proofs.Refusals.{refused-cause, refused-plan}
 use Rattle.job_ends.specs.Causes.{EndsFor, is_fault, is_told}
+use Rattle.job_ends.specs.Courses.{CauseBy}
 use Rattle.job_ends.specs.Ends.{EndsBy}
 use Rattle.job_ends.specs.Plans.{plan_of_reading}
+use Rattle.job_ends.specs.Readings.{reading_in}
 use Rattle.job_ends.specs.declared.status.Status.{Status}
 use Rattle.job_ends.specs.declared.status.Status.TheVariants as status
 use Rattle.motion_history.specs.declared.refused.TextRefused.{TextRefused}
@@ -16,7 +17,7 @@ use Rattle.trace_check.specs.declared.difference.Difference.{Difference}
 use Rattle.trace_text.specs.reading.Reading.{trace_of}
 use Rattle.trace_text.specs.TraceState.{TraceState, entries_of}
 use Rattle.trace_text.specs.writing.Writes.{Output}
-use Rattle.trace_jobs.specs.Causes.{CheckCause, MigrateCause}
+use Rattle.trace_jobs.specs.Causes.{CheckCause, CheckedCause, LegalCause, MigrateCause}
 use Rattle.trace_jobs.specs.Verified.{IsVerified, JudgesBy, tells_illegal, tells_legal}
 use Rattle.trace_jobs.specs.Plans.{check_plan, verified_plan, migrate_plan, migrated_plan, plan_of_check, plan_of_migrate}
 
@@ -70,33 +71,33 @@ check-told : (name : List ℕ) (reading : Result TraceState TextRefused) →
 check-told name (Ok t) = told-verified (length (entries_of t)) (difference_in t)
 check-told name (Err r) = refl
 
-verified-caused : (text : List ℕ) → LegalIsTold text → (t : TraceState) → trace_of text ≡ Ok t →
+verified-caused : (t : TraceState) → ((difference_in t ≡ None) ↔ IsLegalTrace t) →
     (o : Option Difference) → difference_in t ≡ o →
-    CheckCause text (verified_plan (length (entries_of t)) o).status
-verified-caused text law t is None e =
-    record { is = record { trace = t; reading = is; legal = (law t is).0 e }; count = refl }
-verified-caused text law t is (Some d) e =
-    record { trace = t; reading = is; difference = d; first = e; place_is = refl }
+    CheckedCause t (verified_plan (length (entries_of t)) o).status
+verified-caused t law None e = (law.0 e, refl)
+verified-caused t law (Some d) e = record { difference = d; first = e; place_is = refl }
 
 check-caused : (name text : List ℕ) → LegalIsTold text → (reading : Result TraceState TextRefused) →
-    trace_of text ≡ reading → CheckCause text (plan_of_reading plan_of_check 1 name reading).status
-check-caused name text law (Ok t) is = verified-caused text law t is (difference_in t) refl
-check-caused name text law (Err r) is = refused-cause (trace_of text) r is
+    trace_of text ≡ reading → CauseBy (reading_in 1 reading) CheckedCause
+    (plan_of_reading plan_of_check 1 name reading).status
+check-caused name text law (Ok t) is = verified-caused t (law t is) (difference_in t) refl
+check-caused name text law (Err r) is = refl
 
-check-alone : (name text : List ℕ) → LegalIsTold text → (other : Status) → CheckCause text other →
-    (check_plan name text).status ≡ other
-check-alone name text law (status.Legal n) h =
-    let t = h.is.trace in
-    ap (λ x. (plan_of_reading plan_of_check 1 name x).status) h.is.reading
-    ∙ ap (λ o. (verified_plan (length (entries_of t)) o).status) ((law t h.is.reading).1 h.is.legal)
-    ∙ ap status.Legal h.count
-check-alone name text law (status.Illegal place) h =
-    ap (λ x. (plan_of_reading plan_of_check 1 name x).status) h.reading
-    ∙ ap (λ o. (verified_plan (length (entries_of h.trace)) o).status) h.first
+verified-alone : (t : TraceState) → ((difference_in t ≡ None) ↔ IsLegalTrace t) → (other : Status) →
+    CheckedCause t other → (plan_of_check t).status ≡ other
+verified-alone t law (status.Legal n) h =
+    ap (λ o. (verified_plan (length (entries_of t)) o).status) (law.1 h.0) ∙ ap status.Legal h.1
+verified-alone t law (status.Illegal place) h =
+    ap (λ o. (verified_plan (length (entries_of t)) o).status) h.first
     ∙ ap status.Illegal h.place_is
-check-alone name text law (status.TextRefused word place rule) h =
-    refused-plan plan_of_check name (trace_of text) word place rule h
-check-alone name text law other h = absurd h
+verified-alone t law other h = absurd h
+
+check-alone : (name text : List ℕ) → LegalIsTold text → (reading : Result TraceState TextRefused) →
+    trace_of text ≡ reading → (other : Status) →
+    CauseBy (reading_in 1 reading) CheckedCause other →
+    (plan_of_reading plan_of_check 1 name reading).status ≡ other
+check-alone name text law (Ok t) is other h = verified-alone t (law t is) other h
+check-alone name text law (Err r) is other h = h
 
 pub check-for : (name text : List ℕ) (old new : Output) (s : Status) →
     EndsBy old new (check_plan name text) s → JudgesBy (λ t. trace_of text ≡ Ok t) s →
@@ -105,7 +106,7 @@ check-for name text old new s e verified = record {
   ends = e;
   told = check-told name (trace_of text);
   caused = λ f. check-caused name text (law f) (trace_of text) refl;
-  alone = λ f. check-alone name text (law f);
+  alone = λ f. check-alone name text (law f) (trace_of text) refl;
 }
   where
     law : is_fault s ≡ false → LegalIsTold text
@@ -123,30 +124,31 @@ migrate-told : (name : List ℕ) (reading : Result TraceState TextRefused) →
 migrate-told name (Ok t) = told-migrated t (difference_in t)
 migrate-told name (Err r) = refl
 
-migrated-caused : (text : List ℕ) → LegalIsTold text → (t : TraceState) → trace_of text ≡ Ok t →
-    (o : Option Difference) → difference_in t ≡ o → MigrateCause text (migrated_plan t o).status
-migrated-caused text law t is None e =
-    record { trace = t; reading = is; legal = (law t is).0 e }
-migrated-caused text law t is (Some d) e =
-    record { trace = t; reading = is; difference = d; first = e; place_is = refl }
+migrated-caused : (t : TraceState) → ((difference_in t ≡ None) ↔ IsLegalTrace t) →
+    (o : Option Difference) → difference_in t ≡ o → LegalCause t (migrated_plan t o).status
+migrated-caused t law None e = law.0 e
+migrated-caused t law (Some d) e = record { difference = d; first = e; place_is = refl }
 
 migrate-caused : (name text : List ℕ) → LegalIsTold text →
     (reading : Result TraceState TextRefused) → trace_of text ≡ reading →
-    MigrateCause text (plan_of_reading plan_of_migrate 1 name reading).status
-migrate-caused name text law (Ok t) is = migrated-caused text law t is (difference_in t) refl
-migrate-caused name text law (Err r) is = refused-cause (trace_of text) r is
+    CauseBy (reading_in 1 reading) LegalCause
+    (plan_of_reading plan_of_migrate 1 name reading).status
+migrate-caused name text law (Ok t) is = migrated-caused t (law t is) (difference_in t) refl
+migrate-caused name text law (Err r) is = refl
 
-migrate-alone : (name text : List ℕ) → LegalIsTold text → (other : Status) →
-    MigrateCause text other → (migrate_plan name text).status ≡ other
-migrate-alone name text law status.Ok h =
-    ap (λ x. (plan_of_reading plan_of_migrate 1 name x).status) h.reading
-    ∙ ap (λ o. (migrated_plan h.trace o).status) ((law h.trace h.reading).1 h.legal)
-migrate-alone name text law (status.Illegal place) h =
-    ap (λ x. (plan_of_reading plan_of_migrate 1 name x).status) h.reading
-    ∙ ap (λ o. (migrated_plan h.trace o).status) h.first ∙ ap status.Illegal h.place_is
-migrate-alone name text law (status.TextRefused word place rule) h =
-    refused-plan plan_of_migrate name (trace_of text) word place rule h
-migrate-alone name text law other h = absurd h
+migrated-alone : (t : TraceState) → ((difference_in t ≡ None) ↔ IsLegalTrace t) → (other : Status) →
+    LegalCause t other → (plan_of_migrate t).status ≡ other
+migrated-alone t law status.Ok h = ap (λ o. (migrated_plan t o).status) (law.1 h)
+migrated-alone t law (status.Illegal place) h =
+    ap (λ o. (migrated_plan t o).status) h.first ∙ ap status.Illegal h.place_is
+migrated-alone t law other h = absurd h
+
+migrate-alone : (name text : List ℕ) → LegalIsTold text →
+    (reading : Result TraceState TextRefused) → trace_of text ≡ reading → (other : Status) →
+    CauseBy (reading_in 1 reading) LegalCause other →
+    (plan_of_reading plan_of_migrate 1 name reading).status ≡ other
+migrate-alone name text law (Ok t) is other h = migrated-alone t (law t is) other h
+migrate-alone name text law (Err r) is other h = h
 
 pub migrate-for : (name text : List ℕ) (old new : Output) (s : Status) →
     EndsBy old new (migrate_plan name text) s → JudgesBy (λ t. trace_of text ≡ Ok t) s →
@@ -155,7 +157,7 @@ migrate-for name text old new s e verified = record {
   ends = e;
   told = migrate-told name (trace_of text);
   caused = λ f. migrate-caused name text (law f) (trace_of text) refl;
-  alone = λ f. migrate-alone name text (law f);
+  alone = λ f. migrate-alone name text (law f) (trace_of text) refl;
 }
   where
     law : is_fault s ≡ false → LegalIsTold text

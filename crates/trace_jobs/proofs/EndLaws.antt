@@ -113,7 +113,8 @@ verifies-unfair t s unfair n = λ u same. record {
 }
 
 -- a trace that was found not to be legal
-pub verifies-illegal : (t : TraceState) (v : Verdict) (place : ℕ) (x y : List (List ℕ)) (s : Status) →
+pub verifies-illegal : (t : TraceState) (v : Verdict) (place : ℕ) (x y : List (List ℕ))
+    (s : Status) →
     v ≡ verdict.IllegalAt place x y →
     ((v ≡ verdict.Legal (length (entries_of t))) ↔ IsLegalTrace t) → tells_legal s ≡ false →
     JudgesBy (λ u. u ≡ t) s

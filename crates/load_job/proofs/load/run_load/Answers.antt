@@ -1,7 +1,7 @@
 -- The line of the load's run was said, or there was no memory for it.
 use Rattle.std.proofs.Common.{refl}
 use Rattle.job_ends.proofs.PlanLaws.{said}
-use Rattle.load_job.proofs.EndLaws.{IsKnown, ended-early, ended-run}
+use Rattle.load_job.proofs.EndLaws.{ended-early, ended-run}
 use Rattle.load_job.proofs.load.run_load.Goals as goal
 
 pub returns-in_default : goal.returns-in_default

@@ -16,7 +16,8 @@ returns-in-Ok g c =
     let told = g.F.Files.told c.args.files.now in
     let rose = Rose (g.F.Files.count c.args.files.now) (g.F.Files.count c.serve.new.files) in
     let refused = Rose c.args.spawner.now.faults c.serve.new.spawner.faults in
-    let Started : ℕ → Type 0 = λ n. length c.serve.new.spawner.jobs ≡ length c.args.spawner.now.jobs + n in
+    let Started : ℕ → Type 0 =
+    λ n. length c.serve.new.spawner.jobs ≡ length c.args.spawner.now.jobs + n in
     let asked = asked_of c.args.words.now in
     let old : Output = record {
       count = g.K.Sink.count c.args.out.now;
@@ -28,7 +29,8 @@ returns-in-Ok g c =
     } in
     let is_asked = request-told _ _ c.in-Ok.ensures in
     let by : EndsByRequest told rose refused Started asked old new c.serve.result =
-    subst (λ a. EndsByRequest told rose refused Started a old new c.serve.result) is_asked c.serve.ensures.ends in
+    subst (λ a. EndsByRequest told rose refused Started a old new c.serve.result) is_asked
+    c.serve.ensures.ends in
     record {
       ends = inl by;
       said = said c.room_leads_to_ok.ensures told rose refused Started asked

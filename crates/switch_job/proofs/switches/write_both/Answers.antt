@@ -22,7 +22,11 @@ returns-in-Ok-Legal-clause-ends g c = λ whole held.
     same-plan _ _ _ _ _
     (ap (λ t. switched_plan t c.args.switches.now None) (sym all)
     ∙ plan-of-legal whole c.args.switches.now c.in-Ok-Legal.field-0-0 is)
-    (record { written = c.write_edges.result; writes = c.write_edges.ensures; status = c.status_by.ensures })
+    (record {
+      written = c.write_edges.result;
+      writes = c.write_edges.ensures;
+      status = c.status_by.ensures;
+    })
 
 pub returns-in-Ok-Legal-clause-legal : goal.returns-in-Ok-Legal-clause-legal
 returns-in-Ok-Legal-clause-legal g c = λ whole held f.

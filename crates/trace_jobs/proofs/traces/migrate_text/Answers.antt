@@ -10,7 +10,8 @@ pub returns-in-Ok : goal.returns-in-Ok
 returns-in-Ok g c =
     let r = c.in-Ok.ensures.reading in
     migrate-ended _ _ _ _ _
-    (read-ends _ _ plan_of_migrate c.args.name.now _ r.0 _ r.1 (c.migrate_trace.ensures.ends r.0 r.2))
+    (read-ends _ _ plan_of_migrate c.args.name.now _ r.0 _ r.1
+    (c.migrate_trace.ensures.ends r.0 r.2))
     (verifies-read _ _ _ r.1 (c.migrate_trace.ensures.verified r.0 r.2))
 
 pub returns-in-Err-Refused : goal.returns-in-Err-Refused

@@ -27,7 +27,8 @@ write_trace-written-requires-clause-drives g c =
 
 pub returns-in-Ok-Legal-clause-verified : goal.returns-in-Ok-Legal-clause-verified
 returns-in-Ok-Legal-clause-verified g c = λ whole held.
-    let is = subst (IsReplayed whole) c.in-Ok-Legal.field-0-is (c.in-Ok-Legal.ensures.held whole held) in
+    let is = subst (IsReplayed whole) c.in-Ok-Legal.field-0-is
+    (c.in-Ok-Legal.ensures.held whole held) in
     let fair : IsLegalTrace whole = record {
       history = c.in-Ok-Legal.kernel.history;
       legal = is.1.legal;
@@ -42,7 +43,8 @@ returns-in-Ok-Legal-clause-verified g c = λ whole held.
 
 pub returns-in-Ok-Legal-clause-ends : goal.returns-in-Ok-Legal-clause-ends
 returns-in-Ok-Legal-clause-ends g c = λ whole held.
-    let is = subst (IsReplayed whole) c.in-Ok-Legal.field-0-is (c.in-Ok-Legal.ensures.held whole held) in
+    let is = subst (IsReplayed whole) c.in-Ok-Legal.field-0-is
+    (c.in-Ok-Legal.ensures.held whole held) in
     let fair : IsLegalTrace whole = record {
       history = c.in-Ok-Legal.kernel.history;
       legal = is.1.legal;
@@ -74,12 +76,14 @@ returns-in-Ok-Legal-clause-ends g c = λ whole held.
 
 pub returns-in-Ok-IllegalAt-clause-verified : goal.returns-in-Ok-IllegalAt-clause-verified
 returns-in-Ok-IllegalAt-clause-verified g c = λ whole held.
-    let is = subst (IsReplayed whole) c.in-Ok-IllegalAt.field-0-is (c.in-Ok-IllegalAt.ensures.held whole held) in
+    let is = subst (IsReplayed whole) c.in-Ok-IllegalAt.field-0-is
+    (c.in-Ok-IllegalAt.ensures.held whole held) in
     verifies-unfair whole c.say_difference.result is.1 c.say_difference.ensures.legal
 
 pub returns-in-Ok-IllegalAt-clause-ends : goal.returns-in-Ok-IllegalAt-clause-ends
 returns-in-Ok-IllegalAt-clause-ends g c = λ whole held.
-    let is = subst (IsReplayed whole) c.in-Ok-IllegalAt.field-0-is (c.in-Ok-IllegalAt.ensures.held whole held) in
+    let is = subst (IsReplayed whole) c.in-Ok-IllegalAt.field-0-is
+    (c.in-Ok-IllegalAt.ensures.held whole held) in
     same-plan _ _ _ _ _ (sym (migrating whole _ is.0)) c.say_difference.ensures.ends
 
 pub returns-in-Err-clause-verified : goal.returns-in-Err-clause-verified
