@@ -1,7 +1,7 @@
 -- How the job ends, from what its parts did.
 -- for: run_text
 use Rattle.std.specs.Prelude.{◌≡◌, refl, ℕ, true, false, Result, Ok, Err, List, map, All}
-use Rattle.std.proofs.Common.{◌∙◌, sym, ap, subst}
+use Rattle.std.proofs.Common.{◌∙◌, sym, subst}
 use Rattle.bench_run.specs.Going.{run_at}
 use Rattle.bench_run.specs.InStep.{IsInStep}
 use Rattle.bench_run.specs.LegalRun.{IsLegalRun}
@@ -11,7 +11,7 @@ use Rattle.bench_text.specs.BenchState.{BenchState, BrakesAsItSpeedsUp, IsBench}
 use Rattle.bench_text.specs.Reading.{ReadsBy, bench_of}
 use Rattle.drive_sim.specs.Sim.{DriveSim}
 use Rattle.job_ends.specs.Causes.{is_traced}
-use Rattle.job_ends.specs.Ends.{EndsBy, status_by}
+use Rattle.job_ends.specs.Ends.{EndsBy}
 use Rattle.job_ends.specs.declared.status.Status.{Status}
 use Rattle.machine_drives.specs.Drives.{drive_end}
 use Rattle.motion_history.specs.Entries.{cycles_of}
@@ -22,14 +22,12 @@ use Rattle.motion_history.specs.declared.refused.TextRefused.{TextRefused}
 use Rattle.motion_history.specs.declared.refused.TraceVersion.{TraceVersion}
 use Rattle.motion_history.specs.declared.refused.TraceVersion.TheVariants.{One, Two}
 use Rattle.motion_kernel.specs.KernelState.{KernelState}
-use Rattle.trace_text.specs.Trace.{CanHold, trace_text}
-use Rattle.trace_text.specs.writing.Writes.{Output, Writes}
-use Rattle.trace_text.specs.declared.command.Command.TheVariants as command
-use Rattle.trace_text.specs.declared.writing.write.TraceFault.{TraceFault}
+use Rattle.trace_text.specs.Trace.{CanHold}
+use Rattle.trace_text.specs.writing.Writes.{Output}
 use Rattle.bench_job.specs.Again.{IsTracedRun, ReadsAgain}
 use Rattle.bench_job.specs.Ends.{EndsByBench}
 use Rattle.bench_job.specs.Headline.{RunsBy}
-use Rattle.bench_job.specs.Plans.{bench_plan, plan_of_bench, status_of}
+use Rattle.bench_job.specs.Plans.{bench_plan}
 use Rattle.bench_job.proofs.CauseLaws.{ends-for}
 use Rattle.bench_job.proofs.HeadlineLaws.{headline-of}
 
@@ -38,22 +36,6 @@ pub refused-why : (reading : Result BenchState TextRefused) (f : TextFault) (r :
     f ≡ Refused r → ReadsBy reading (Err f) → reading ≡ Err r
 refused-why reading f r e why =
     let P : TextFault → Type 0 = λ x. ReadsBy reading (Err x) in subst P e why
-
--- the trace of a run that was written is that of its bench, and the status is that of the run
-pub bench-ends : (old new : Output) (b : BenchState) (k : KernelState) (drives : List DriveSim)
-    (ending : Result (Unit {0}) RunFault) (written : Result (Unit {0}) TraceFault) →
-    run_at k drives ending ≡ run_of b →
-    Writes old new
-    (trace_text b.version command.Bench b.config k.history
-    (map (drive_end (cycles_of k.history)) drives))
-    written →
-    EndsBy old new (plan_of_bench b) (status_by (status_of ending) written)
-bench-ends old new b k drives ending written e w = record {
-  written = written;
-  writes = subst (λ t. Writes old new t written)
-      (ap (λ (r : Run). trace_text b.version command.Bench b.config r.history (drive_ends r)) e) w;
-  status = ap (λ (r : Run). status_by (status_of r.ending) written) e;
-}
 
 -- a run is traced by its kernel and its drives
 pub traced-run : (b : BenchState) (k : KernelState) (drives : List DriveSim)

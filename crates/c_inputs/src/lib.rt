@@ -1,5 +1,5 @@
 //! What a C program gives a call of a block, and the inputs that it makes. It stands on
-//! `fb_outputs`, which says which inputs a kind of block takes, and on `machine_words` for
+//! `plc_types`, which says which inputs a kind of block takes, and on `machine_words` for
 //! positions with 0 after them. Begin with `specs/Given.antt`, which says each input by the
 //! struct's field; `motion_c` calls the kernel with what is made here.
 #![tactic(auto)]

@@ -1,5 +1,5 @@
 //! Digital cam switches: where each is on, by the setpoints of its axis, and its edges. A switch is
-//! on within its places, in one direction or both, with its hysteresis. It stands on `axis_state`
+//! on within its places, in one direction or both, with its hysteresis. It stands on `plc_types`
 //! alone and knows nothing of texts. Begin at [`Watch`]; that the edges are exactly the turns is
 //! the law [`edges_are_as_said`].
 #![tactic(auto)]

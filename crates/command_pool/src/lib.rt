@@ -1,6 +1,6 @@
 //! Commands of function blocks: their rates, how a command ends, and the pool in which commands
-//! wait, one list per axis or group. It stands on `plc_types` and `out_of_memory`, and takes its memory when it is opened. Begin at [`Wanted`], which is a
-//! command, and [`CommandPool`].
+//! wait, one list per axis or group. It stands on `plc_types` and `out_of_memory`. Its memory is
+//! taken when it is opened. Begin at [`Wanted`], which is a command, and [`CommandPool`].
 #![tactic(auto)]
 
 mod ending;

@@ -10,7 +10,8 @@ use Rattle.trace_text.specs.writing.Writes.{Output}
 use Rattle.job_ends.proofs.CourseLaws.{none-given, says}
 use Rattle.job_ends.proofs.Readings.{given, no-reading}
 use Rattle.job_ends.specs.Causes.{is_fault}
-use Rattle.job_ends.specs.Courses.{EndsGiven, EndsReported, Says, both_job, word_of}
+use Rattle.job_ends.proofs.Endings.{EndsGiven, EndsReported}
+use Rattle.job_ends.specs.Courses.{Says, both_job, word_of}
 use Rattle.job_ends.specs.Ends.{EndsEarly}
 use Rattle.job_ends.specs.Files.{GivesReading, NoBoth, NoReading}
 use Rattle.job_ends.specs.Readings.{both_by, file_in}

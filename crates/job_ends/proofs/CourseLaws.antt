@@ -11,7 +11,8 @@ use Rattle.job_ends.proofs.PlanLaws.{Statuses, comes, only, statuses, write}
 use Rattle.job_ends.proofs.Statuses.{apart, early-not, fault-stays, text-unfaulted}
 use Rattle.job_ends.specs.Causes.{ComesExactly, is_fault, is_told}
 use Rattle.job_ends.specs.Ends.{EndsEarly}
-use Rattle.job_ends.specs.Courses.{CauseBy, EndsGiven, EndsOver, EndsReported, IsAbout, IsEndOf, IsReportOf, Job, Says, decides, word_of}
+use Rattle.job_ends.proofs.Endings.{EndsGiven, EndsOver, EndsReported, IsReportOf}
+use Rattle.job_ends.specs.Courses.{CauseBy, IsAbout, IsEndOf, Job, Says, decides, word_of}
 use Rattle.job_ends.specs.declared.status.Status.{Status}
 use Rattle.job_ends.specs.declared.status.Status.TheVariants as status
 

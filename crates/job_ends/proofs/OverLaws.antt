@@ -8,7 +8,8 @@ use Rattle.trace_text.specs.writing.Writes.{Output}
 use Rattle.job_ends.proofs.CourseLaws.{none-given, says, told-unfaulted}
 use Rattle.job_ends.proofs.Readings.{given, no-reading, no-text, text-there}
 use Rattle.job_ends.specs.Causes.{EndsFor, is_fault}
-use Rattle.job_ends.specs.Courses.{EndsGiven, Says, file_job, text_job, word_of}
+use Rattle.job_ends.proofs.Endings.{EndsGiven}
+use Rattle.job_ends.specs.Courses.{Says, file_job, text_job, word_of}
 use Rattle.job_ends.specs.Ends.{EndsBy}
 use Rattle.job_ends.specs.Files.{EndsByFile, EndsByText, IsText}
 use Rattle.job_ends.specs.Plans.{Plan, plan_of_reading, refused_plan}

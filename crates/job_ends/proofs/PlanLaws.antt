@@ -12,7 +12,7 @@ use Rattle.trace_text.specs.writing.Writes.{Output, Writes}
 use Rattle.trace_text.specs.declared.writing.write.TraceFault.{TraceFault}
 use Rattle.trace_text.specs.declared.writing.write.TraceFault.TheVariants as fault
 use Rattle.job_ends.specs.Causes.{ComesExactly, is_fault, is_traced}
-use Rattle.job_ends.specs.Ends.{EndsBy, EndsEarly, EndsUnread, Says, status_by}
+use Rattle.job_ends.specs.Ends.{EndsBy, EndsEarly, EndsUnread, SaysLine, status_by}
 use Rattle.job_ends.specs.Plans.{Plan, too_long_plan, unread_plan}
 use Rattle.job_ends.specs.declared.status.Status.{Status}
 use Rattle.job_ends.specs.declared.status.Status.TheVariants as status
@@ -28,7 +28,7 @@ early old new plan s e = rw e.output (record {
 
 -- a line that is the text of a plan
 pub said : (old new : Output) (text : List ℕ) (line : Result (Vec ℕ Global) AllocError)
-    (s r : Status) → IfOk line (λ v. v.items ≡ text) → Says old new line s r →
+    (s r : Status) → IfOk line (λ v. v.items ≡ text) → SaysLine old new line s r →
     EndsBy old new (record { status = s; text = text }) r
 said old new text (Ok v) s r e w =
     let P : List ℕ → Type 0 = λ t. EndsBy old new (record { status = s; text = t }) r in subst P e w

@@ -7,7 +7,7 @@ use Rattle.line_text.specs.Reading.{◌>>=◌}
 use Rattle.motion_history.specs.declared.refused.TextRefused.{TextRefused}
 use Rattle.outside.specs.Told.{FileMap, IsLonger, LacksFile}
 use Rattle.trace_text.specs.writing.Writes.{Output}
-use Rattle.job_ends.specs.Courses.{EndsReported, IsReportOf}
+use Rattle.job_ends.proofs.Endings.{EndsReported, IsReportOf}
 use Rattle.job_ends.specs.Ends.{EndsEarly}
 use Rattle.job_ends.specs.Files.{GivesReading, IsText, NoReading, NoText}
 use Rattle.job_ends.specs.Plans.{refused_plan, too_long_plan, unread_plan}

@@ -31,9 +31,9 @@ pub record EndsEarly (old new : Output) (s : Status) : Type 0 where
   pub output : new ≡ old
 
 -- a line that there may have been no memory for
-abbrev pub Says : Output → Output → Result (Vec ℕ Global) AllocError → Status → Status → Type 0
-Says old new (Ok line) s r = EndsBy old new (record { status = s; text = line.items }) r
-Says old new (Err e) s r = EndsEarly old new r
+abbrev pub SaysLine : Output → Output → Result (Vec ℕ Global) AllocError → Status → Status → Type 0
+SaysLine old new (Ok line) s r = EndsBy old new (record { status = s; text = line.items }) r
+SaysLine old new (Err e) s r = EndsEarly old new r
 
 -- why the file of a word wasn't read
 abbrev pub EndsUnread : ℕ → List ℕ → FilesFault → Output → Output → Status → Type 0

@@ -1,7 +1,7 @@
 //! How a job of the program ends: its status, and what is said in place of its text. Here is what
-//! all jobs share: the status of the program, the reading of a file within its limit, and the two
-//! records, of how a job ends and of why. It stands on `outside` and `trace_text`. Begin at
-//! [`Status`] and [`say`].
+//! all jobs share: the status of the program, the reading of a file within its limit, how a job
+//! ends by its plan, and what its end over files says of its status (specs/Courses). It stands on
+//! `outside` and `trace_text`. Begin at [`Status`] and [`say`].
 #![tactic(auto)]
 
 mod files;

@@ -1,7 +1,7 @@
 // What a job says in place of its text.
 
 ghost use Rattle.std.specs.Prelude.{◌≡◌};
-ghost use Rattle.job_ends.specs.Ends.{EndsBy, EndsUnread, Says};
+ghost use Rattle.job_ends.specs.Ends.{EndsBy, EndsUnread, SaysLine};
 ghost use Rattle.job_ends.specs.Plans.{refused_plan};
 
 use crate::lines::{named_line, refused_line};
@@ -26,7 +26,7 @@ pub fn say_all<K: Sink>(line: &[u8], status: Status, out: &mut K) -> Status
 
 /// Says a line if there was memory for it, with this status where it is written.
 pub fn say<K: Sink>(line: Result<Vec<u8>, AllocError>, status: Status, out: &mut K) -> Status
-    ensures { Says (record { count = K.count out.old; told = K.told out.old })
+    ensures { SaysLine (record { count = K.count out.old; told = K.told out.old })
         (record { count = K.count out.new; told = K.told out.new }) line status result }
 {
     match line {

@@ -1,4 +1,4 @@
-//! The limits of an axis, and which steps are safe within them. A step is safe where the axis can
+//! Which steps of an axis are safe within its limits. A step is safe where the axis can
 //! still come to rest inside its limits afterwards; the safe steps are an interval, and the step
 //! taken is the one nearest to the wanted one. Every limit in this kernel rests on it. It stands on
 //! `plc_types`. Begin at [`nearest_safe`] and [`stoppable`].

@@ -12,7 +12,8 @@ use Rattle.job_ends.proofs.PlanLaws.{Statuses, statuses}
 use Rattle.job_ends.proofs.Readings.{short-text}
 use Rattle.job_ends.proofs.Statuses.{apart}
 use Rattle.job_ends.specs.Causes.{is_fault, is_told, is_traced}
-use Rattle.job_ends.specs.Courses.{CauseBy, EndsGiven, IsEndOf, Says, word_of}
+use Rattle.job_ends.proofs.Endings.{EndsGiven}
+use Rattle.job_ends.specs.Courses.{CauseBy, IsEndOf, Says, word_of}
 use Rattle.job_ends.specs.Ends.{EndsEarly}
 use Rattle.job_ends.specs.Readings.{text_in}
 use Rattle.job_ends.specs.declared.status.Status.{Status}

@@ -4,7 +4,7 @@ use Rattle.std.specs.Prelude.{◌≤◌, ℕ, Bool, true, false, List, length}
 use Rattle.bench_job.specs.Causes.{BenchCause, HasRoomFor}
 use Rattle.command_words.specs.Requests.{Request, of_file, of_load, of_report, of_run, of_scope, of_switches, of_tasks}
 use Rattle.command_words.specs.declared.request.Job.TheVariants.{Bench, Check, Migrate}
-use Rattle.command_words.specs.declared.request.Job as code
+use Rattle.command_words.specs.declared.request.Job as words
 use Rattle.job_ends.specs.Courses.{Job, text_job}
 use Rattle.job_ends.specs.declared.status.Status.{Status}
 use Rattle.load_job.specs.Ends.{load_job}
@@ -24,12 +24,12 @@ VerifyingCause true text = TraceSegmentCause text
 VerifyingCause false text = CheckCause text
 
 -- the cause of each status of a job with a text
-abbrev pub TextCause : code.Job → List ℕ → Status → Type 0
+abbrev pub TextCause : words.Job → List ℕ → Status → Type 0
 TextCause Bench text = BenchCause text
 TextCause Check text = VerifyingCause (begins_as_trace_segment text) text
 TextCause Migrate text = MigrateCause text
 
--- the job over files that a request is; the premise of a run is that a thread was refused
+-- the job over files that each request is; a run may also end because a thread was refused
 abbrev pub job_of : Type 0 → Request → Job
 job_of unstarted (of_file r) = text_job r.name (most_of r.job) (TextCause r.job)
 job_of unstarted (of_run r) = run_job unstarted r.config r.program
@@ -40,7 +40,7 @@ job_of unstarted (of_report (of_scope trace)) = scope_job trace
 
 -- a text has a reading as a bench that is to be run, for whose events there are room and cycles
 -- enough
-abbrev pub HasRoom : code.Job → List ℕ → Type 0
+abbrev pub HasRoom : words.Job → List ℕ → Type 0
 HasRoom Bench text = (length text ≤ most_of Bench) × HasRoomFor text
 HasRoom Check text = ⊥
 HasRoom Migrate text = ⊥

@@ -74,8 +74,8 @@ pub record IsSaidOf (told : Option FileMap) (rose unstarted : Type 0) (Started :
     (r : Request) (old new : Output) (s : Status) : Type 0 where
   -- what was written stands for what was asked
   pub written : Stands told Started r old.told new.told s
-  -- each status that the files decide comes exactly of its cause, a fault only where one was, and
-  -- no status but the request's, so never Usage
+  -- each status that the files decide comes exactly of its cause, ReadFault and WriteFault only
+  -- where theirs is, and no status but the request's, so never Usage
   pub says : Says told rose (job_of unstarted r) old new s
   -- a thread was refused
   pub thread_refused : s ≡ status.ThreadRefused → unstarted

@@ -1,5 +1,5 @@
 //! What a motion kernel is configured with, and the history of what was called, cycled and ended on
-//! it. It stands on `axis_state`, `group_state`, `fb_outputs` and `cam_table`. The kernel's state
+//! it. It stands on `plc_types` and `cam_table`. The kernel's state
 //! is the replay of a history, so a trace says all that was done. Begin at [`Builder`], [`Config`]
 //! and [`History`].
 #![tactic(auto)]

@@ -1,7 +1,7 @@
 //! The words of the standard as types: kinds of function block with their inputs and outputs, axes
 //! with their limits, names, states and rows, groups, and what goes to a drive and comes from it.
-//! Texts and cores both stand on it, and texts on no core, so that a change in a core leaves them
-//! proved. Here are also which inputs a kind takes, and the counts of a drive that stand for places.
+//! Texts and cores both stand on it, and texts but trace segments on no core, so that a change in a
+//! core leaves them proved. Here are also which inputs a kind takes, and counts with their places.
 //! It stands on `motion_numbers`. Begin at [`AxisDef`], [`BlockKind`] and [`Inputs`].
 #![tactic(auto)]
 

@@ -5,7 +5,7 @@ use Rattle.std.proofs.Common.{inl, inr}
 use Rattle.job_ends.proofs.PlanLaws.{early, traced-unfaulted}
 use Rattle.job_ends.proofs.Statuses.{apart, traced-no-text}
 use Rattle.job_ends.specs.Causes.{is_fault, is_traced}
-use Rattle.job_ends.specs.Courses.{EndsGiven}
+use Rattle.job_ends.proofs.Endings.{EndsGiven}
 use Rattle.job_ends.specs.Ends.{EndsBy}
 use Rattle.job_ends.specs.Plans.{Plan}
 use Rattle.job_ends.specs.Readings.{is_of_text}

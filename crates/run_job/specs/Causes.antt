@@ -8,9 +8,9 @@ use Rattle.machine_config.specs.declared.machine.Machine.{Machine}
 use Rattle.plc_program.specs.Reading.{program_of}
 use Rattle.run_job.specs.Plants.{most_bytes}
 
--- the first file is read as a machine, and the second as its program. How its threads interleave no
--- file decides: they decide what is reported of their texts; else a thread was refused, or there is
--- a trace
+-- the first file is read as a machine, and the second as its program. The files decide what is
+-- reported of their texts, and not how the threads interleave: where both are given, a thread was
+-- refused or there is a trace
 abbrev pub run_job : Type 0 → List ℕ → List ℕ → Job
 run_job refused config program = both_job config most_bytes machine_of program most_bytes
     (λ (m : Machine). program_of m.cycle_us m.config) (λ given wanted. ⊥) false

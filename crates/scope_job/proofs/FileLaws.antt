@@ -5,7 +5,8 @@ use Rattle.std.proofs.Common.{ap, subst, sym}
 use Rattle.job_ends.proofs.OverLaws.{by-reading, file-read, file-says}
 use Rattle.job_ends.proofs.PlanLaws.{whole}
 use Rattle.job_ends.specs.Causes.{is_fault}
-use Rattle.job_ends.specs.Courses.{EndsGiven, word_of}
+use Rattle.job_ends.proofs.Endings.{EndsGiven}
+use Rattle.job_ends.specs.Courses.{word_of}
 use Rattle.job_ends.specs.Ends.{EndsBy}
 use Rattle.job_ends.specs.Files.{IsText}
 use Rattle.job_ends.specs.declared.status.Status.{Status}

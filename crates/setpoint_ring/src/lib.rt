@@ -1,6 +1,6 @@
 //! The ring between the kernel and a drive: outputs go to the drive and answers come back, each in
 //! its order and once. It stands on `rtrb`, a ring for one producer and one consumer, and on
-//! `cia402_machine` for what goes through. Begin at [`ring`], which makes both ends; what each end
+//! `plc_types` for what goes through. Begin at [`ring`], which makes both ends; what each end
 //! knows of the other is kept in proofs alone.
 #![tactic(auto, using(crate::proofs::Items::items_length, crate::proofs::Items::items_more))]
 

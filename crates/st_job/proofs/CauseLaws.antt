@@ -6,7 +6,7 @@ use Rattle.bench_run.specs.declared.bench.RunFault.TheVariants.{CyclesOver, Hist
 use Rattle.job_ends.proofs.PlanLaws.{traced-unfaulted}
 use Rattle.job_ends.proofs.Statuses.{apart, traced-no-text}
 use Rattle.job_ends.specs.Causes.{is_traced}
-use Rattle.job_ends.specs.Courses.{EndsGiven}
+use Rattle.job_ends.proofs.Endings.{EndsGiven}
 use Rattle.job_ends.specs.Files.{GivesReading}
 use Rattle.job_ends.specs.Readings.{is_of_text}
 use Rattle.job_ends.specs.declared.status.Status.{Status}

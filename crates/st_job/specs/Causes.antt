@@ -7,7 +7,8 @@ use Rattle.machine_config.specs.declared.machine.Machine.{Machine}
 use Rattle.st_check.specs.Reading.{reading_of}
 use Rattle.st_job.specs.Given.{most_bytes}
 
--- the first file is read as a machine, and the second for it; where they give both there is a trace
+-- the first file is read as a machine, and the second as its tasks; the files decide what is
+-- reported of their texts, and where they give both there is a trace
 abbrev pub st_job : List ℕ → List ℕ → Job
 st_job config program = both_job config most_bytes machine_of program most_bytes
     (λ (m : Machine). reading_of m.config) (λ given wanted. ⊥) false (λ s. is_traced s ≡ true)

@@ -1,8 +1,8 @@
 -- Tasks are opened, and the run begins with them.
 -- for: open_players, run_rounds
-use Rattle.std.specs.Prelude.{◌≡◌, refl, ℕ, suc, ◌+◌, ◌<◌, ◌≤◌, true, Result, Ok, List, [], ◌∷◌, ◌++◌, drop, length, map, take}
+use Rattle.std.specs.Prelude.{◌≡◌, refl, ℕ, suc, ◌+◌, ◌<◌, true, Result, Ok, List, [], ◌∷◌, ◌++◌, drop, length, map, take}
 use Rattle.std.proofs.Common.{◌∙◌, sym, ap, subst, arith}
-use Rattle.std.proofs.lemmas.List.{append-nil, drop_all, length-append, length-map, map-append, take_all, take_more}
+use Rattle.std.proofs.lemmas.List.{append-nil, drop_all, length-append, map-append, take_all, take_more}
 use Rattle.bench_run.specs.Going.{run_at}
 use Rattle.bench_run.specs.Run.{Run, first_run}
 use Rattle.bench_run.specs.declared.bench.RunFault.{RunFault}
@@ -14,10 +14,10 @@ use Rattle.motion_history.specs.Setup.{Setup}
 use Rattle.motion_kernel.specs.Histories.{IsLegal}
 use Rattle.motion_kernel.specs.KernelState.{KernelState}
 use Rattle.motion_laws.specs.Laws.{KeepsLaws}
-use Rattle.st_exec.specs.Compiled.{Compiled, TaskProgram, no_program, program_at, program_of}
+use Rattle.st_exec.specs.Compiled.{Compiled, no_program, program_at, program_of}
 use Rattle.st_exec.specs.Following.{IsOpened}
 use Rattle.st_tree.specs.declared.program.Task.{Task}
-use Rattle.st_rounds.specs.Cell.{Cell, TaskStand, task_at_opening}
+use Rattle.st_rounds.specs.Cell.{Cell, task_at_opening}
 use Rattle.st_rounds.specs.Controllers.{cell_of}
 use Rattle.st_rounds.specs.LegalRun.{IsLegalRun}
 use Rattle.st_rounds.specs.Opening.{AreOpened, opening_of}
@@ -79,34 +79,12 @@ one-opened code i ps q l are lives is =
           ∙ sym (tasks-more code i l);
     }
 
-pub none-opened : (code : Compiled) (ps : List Player) → ps ≡ [] → AreOpenedTo code 0 ps
-none-opened code ps e = subst (AreOpenedTo code 0) (sym e) (record {
-  count = refl;
-  playing = tt;
-  stands = refl;
-})
-
-pub all-opened : (code : Compiled) (i : ℕ) (ps : List Player) → length code.tasks ≤ i →
-    AreOpenedTo code i ps → AreOpened code ps
-all-opened code i ps l are = record {
-  playing = are.playing;
-  stands = are.stands ∙ ap (map opening_of) (take_all i code.tasks l);
-}
-
 -- ---- the run begins
 
 opened-stands : (ts : List Task) → map opening_of (map program_of ts) ≡ map task_at_opening ts
 unfolding program_of
 opened-stands [] = refl
 opened-stands (t ∷ ts) = ap (λ ds. task_at_opening t ∷ ds) (opened-stands ts)
-
--- there is a task for each tree
-pub opened-each : (p : Controller) (ps : List Player) → AreOpened p.code ps →
-    length ps ≡ length p.program.tasks.items
-opened-each p ps are =
-    sym (length-map ps stand_of) ∙ ap (λ (ds : List TaskStand). length ds) are.stands
-    ∙ length-map p.code.tasks opening_of ∙ ap (λ (cs : List TaskProgram). length cs) p.compiled
-    ∙ length-map p.program.tasks.items program_of
 
 -- rounds from the opening are the run
 pub run-is : (p : Controller) (k k2 : KernelState) (ds ds2 : List DriveSim) (ps : List Player)

@@ -118,13 +118,16 @@ next-left : (c : Cell) (i : ℕ) (trees : List Task) (t : Task) (now : List Play
     (r r2 : Run) (whole : Round) → slice_get trees i ≡ Some t → i < length now →
     r2 ≡ (turn c i t (stand_of (slice_index_or now i d)) r).run →
     stand_of q ≡ (turn c i t (stand_of (slice_index_or now i d)) r).stand →
-    IsLeft (turns c i (drop i trees) (map stand_of (drop i now)) r) (map stand_of (take i now)) whole →
-    IsLeft (turns c (suc i) (drop (suc i) trees) (map stand_of (drop (suc i) (slice_set now i q))) r2)
+    IsLeft (turns c i (drop i trees) (map stand_of (drop i now)) r) (map stand_of
+    (take i now)) whole →
+    IsLeft (turns c (suc i) (drop (suc i) trees) (map stand_of (drop (suc i)
+    (slice_set now i q))) r2)
     (map stand_of (take (suc i) (slice_set now i q))) whole
 next-left c i trees t now d q r r2 whole there l run stand h =
     let first = turn c i t (stand_of (slice_index_or now i d)) r in
     let others = turns c (suc i) (drop (suc i) trees) (map stand_of (drop (suc i) now)) in
-    let same : turns c (suc i) (drop (suc i) trees) (map stand_of (drop (suc i) (slice_set now i q))) r2 ≡
+    let same : turns c (suc i) (drop (suc i) trees) (map stand_of (drop (suc i)
+    (slice_set now i q))) r2 ≡
     others first.run =
     ap (λ ps. turns c (suc i) (drop (suc i) trees) (map stand_of ps) r2)
     (drop-set-lt (suc i) now i q (omega arith)) ∙ ap others run in
@@ -182,7 +185,8 @@ pub turn-stops : (p : Controller) (i : ℕ) (k k2 k0 : KernelState) (now old new
     ((t : Task) → slice_get p.program.tasks.items i ≡ Some t → (drives : List DriveSim) →
     HasTurned (turn (cell_of p) i t (stand_of (slice_index_or now i d)) (run_at k drives (Ok tt)))
     k2 drives (Err f) q) → (drives : List DriveSim) →
-    HasMade (turns (cell_of p) 0 p.program.tasks.items (map stand_of old) (run_at k0 drives (Ok tt)))
+    HasMade (turns (cell_of p) 0 p.program.tasks.items (map stand_of old) (run_at k0 drives
+    (Ok tt)))
     k2 drives (Err f) new
 turn-stops p i k k2 k0 now old new d q f l is made drives =
     let tree = tree-at p i now l is.each in
@@ -208,7 +212,8 @@ none-left c i (t ∷ ts) r = refl
 -- all had their turns
 pub all-turned : (p : Controller) (i : ℕ) (k k0 : KernelState) (now old : List Player) →
     length now ≤ i → AreInTurns p i k now k0 old → (drives : List DriveSim) →
-    HasMade (turns (cell_of p) 0 p.program.tasks.items (map stand_of old) (run_at k0 drives (Ok tt)))
+    HasMade (turns (cell_of p) 0 p.program.tasks.items (map stand_of old) (run_at k0 drives
+    (Ok tt)))
     k drives (Ok tt) now
 all-turned p i k k0 now old l is drives =
     let c = cell_of p in
@@ -223,15 +228,3 @@ all-turned p i k k0 now old l is drives =
       sym (ap (map stand_of) (take_all i now l)) ∙ sym (append-nil (map stand_of (take i now)))
           ∙ sym (ap (λ (x : Round). map stand_of (take i now) ++ x.stands) left) ∙ far.stands,
     )
-
--- the turns begin
-pub turns-begin : (p : Controller) (k : KernelState) (ps : List Player) → k.config ≡ p.config →
-    k.stopped ≡ false → length ps ≡ length p.program.tasks.items → ArePlaying p.code 0 ps →
-    AreInTurns p 0 k ps k ps
-turns-begin p k ps config runs each playing = record {
-  config = config;
-  runs = runs;
-  each = each;
-  playing = playing;
-  so_far = λ drives. record { run = refl; stands = refl };
-}

@@ -7,7 +7,8 @@ use Rattle.cam_switch.specs.declared.switch.Switch.{Switch}
 use Rattle.job_ends.proofs.Both.{both-read, both-says, both-there}
 use Rattle.job_ends.proofs.PlanLaws.{whole}
 use Rattle.job_ends.specs.Causes.{is_fault}
-use Rattle.job_ends.specs.Courses.{EndsGiven, word_of}
+use Rattle.job_ends.proofs.Endings.{EndsGiven}
+use Rattle.job_ends.specs.Courses.{word_of}
 use Rattle.job_ends.specs.declared.status.Status.{Status}
 use Rattle.job_ends.specs.declared.status.Status.TheVariants as status
 use Rattle.outside.specs.Told.{FileMap}

@@ -3,7 +3,7 @@
 use Rattle.std.specs.Prelude.{◌≡◌, ◌↔◌, refl, ℕ, Bool, true, false, Option, Some, None, Result, Ok, Err, List, length}
 use Rattle.std.specs.declared.alloc.AllocError.{AllocError}
 use Rattle.std.proofs.Common.{Vec, Global, ◌∙◌, sym, ap, subst}
-use Rattle.job_ends.specs.Ends.{EndsBy, Says, status_by}
+use Rattle.job_ends.specs.Ends.{EndsBy, SaysLine, status_by}
 use Rattle.job_ends.specs.declared.status.Status.{Status}
 use Rattle.job_ends.specs.declared.status.Status.TheVariants as status
 use Rattle.motion_history.specs.declared.refused.TextFault.{TextFault}
@@ -47,7 +47,7 @@ not-by test f o p s (Err fault.OutOfMemory) n e = ap test e ∙ o
 pub said-not : (test : Status → Bool) → test status.WriteFault ≡ false →
     test status.OutOfMemory ≡ false → (old new : Output)
     (line : Result (Vec ℕ Global) AllocError) (p s : Status) → test p ≡ false →
-    Says old new line p s → test s ≡ false
+    SaysLine old new line p s → test s ≡ false
 said-not test f o old new (Ok v) p s n e = not-by test f o p s e.written n e.status
 said-not test f o old new (Err x) p s n e = ap test e.status ∙ o
 
