@@ -1,17 +1,14 @@
 """The programs that the tools may run, and the unproved one, which is built once and kept.
 
-A program of a checkout is in one of two places. `./motion` proves it and puts it into
-crates/motion_main/out. `tools/preview` builds it unproved, with checks at run time, and keeps it in the
-user's cache folder ($XDG_CACHE_HOME/motion, else ~/.cache/motion; where neither can be written, beside
-the proved one), in a folder named by a digest of all that it is built from: the code of motion_main and
-of the crates below it, their lines of crates.txt, and the kit. So a change of one of these has it built
-anew, and checkouts with the same code share it.
+`./motion` proves the program and puts it into crates/motion_main/out. `tools/preview` builds it
+unproved, with checks at run time, and keeps it in the user's cache folder by a digest of all that it is
+built from: the code of motion_main and of the crates below it, their lines of crates.txt, and the kit.
+So a change of one of these has it built anew, and checkouts with the same code share it.
 """
 
 import contextlib
 import errno
 import fcntl
-import hashlib
 import os
 import shlex
 import shutil
@@ -23,9 +20,10 @@ from collections.abc import Iterator
 from pathlib import Path
 from typing import NamedTuple, Optional
 
+from motion_tools import kept
+
 ROOT = Path(__file__).resolve().parents[2]
 CRATE = "motion_main"
-MOST_KEPT = 4
 SECONDS_BETWEEN_REPORTS = 20.0
 TAKES = "some two minutes, more beside other work, once"
 
@@ -67,36 +65,6 @@ def is_out_of_date(root: Path = ROOT) -> bool:
     return (root / "crates" / CRATE / "out" / CRATE).is_file() and proved(root) is None
 
 
-# What the unproved program is built from
-
-def crates_below(text: str) -> dict[str, str]:
-    """The lines of crates.txt of the program's crate and those below it, by the crate's name."""
-    lines = {}
-    for line in (line.split("#")[0].strip() for line in text.splitlines()):
-        if line:
-            lines[line.partition(":")[0].split()[0]] = line
-    found: dict[str, str] = {}
-    left = [CRATE]
-    while left:
-        name = left.pop()
-        if name in lines and name not in found:
-            found[name] = lines[name]
-            left += lines[name].partition(":")[2].split()
-    return found
-
-
-def digest(kit: str, root: Path = ROOT) -> str:
-    """The digest of all that the unproved program is built from."""
-    made = hashlib.sha256(repr(kit).encode())
-    lines = crates_below((root / "crates.txt").read_text(encoding="utf-8"))
-    for name in sorted(lines):
-        made.update(repr(lines[name].split()).encode())
-        for file in sorted((root / "crates" / name / "src").rglob("*")):
-            if file.is_file():
-                made.update(repr((str(file.relative_to(root)), file.read_bytes())).encode())
-    return made.hexdigest()
-
-
 def kit() -> str:
     """The kit's one line about itself, with its place. Raises NotBuilt."""
     command = shutil.which("rt")
@@ -108,21 +76,13 @@ def kit() -> str:
     return f"{said.stdout.strip()}, {Path(command).resolve()}"
 
 
-def cache_folder(root: Path = ROOT) -> Path:
-    """The folder in which unproved programs are kept, made where it isn't there."""
-    home = os.environ.get("XDG_CACHE_HOME") or os.path.expanduser("~/.cache")
-    for folder in (Path(home) / "motion" / "preview", root / "crates" / CRATE / "out" / "preview"):
-        with contextlib.suppress(OSError):
-            folder.mkdir(mode=0o700, parents=True, exist_ok=True)
-            if os.access(folder, os.W_OK):
-                return folder
-    raise NotBuilt("neither the cache folder nor the checkout can be written")
-
-
 def place(root: Path = ROOT) -> Place:
     """Where the unproved program of these sources is kept, or would be."""
     name = kit()
-    return Place(cache_folder(root) / digest(name, root), name)
+    try:
+        return Place(kept.folder(root, "preview") / kept.digest(name, root, CRATE, ("src",)), name)
+    except OSError as error:
+        raise NotBuilt(f"{error.filename}: {error.strerror}") from None
 
 
 # The unproved program
@@ -134,8 +94,7 @@ def unproved(tool: str, root: Path = ROOT) -> Path:
         with turn(where, tool):
             if not where.is_there:
                 build(where, tool, root)
-    with contextlib.suppress(OSError):
-        os.utime(where.folder)
+    kept.use(where.folder)
     return where.script
 
 
@@ -164,14 +123,11 @@ def build(where: Place, tool: str, root: Path) -> None:
                           f'exec env -i {shlex.join(words)} "${{0%/*}}/program" "$@"\n',
                           encoding="utf-8")
         script.chmod(0o755)
-        try:
-            made.rename(where.folder)
-        except OSError:
-            if not where.is_there:      # a folder that isn't whole: no run has made it
-                shutil.rmtree(where.folder)
-                made.rename(where.folder)
+        if not where.is_there:          # a folder that isn't whole was made by no call
+            shutil.rmtree(where.folder, ignore_errors=True)
+        made.rename(where.folder)
     say(tool, f"built in {time.monotonic() - begun:.0f} s")
-    forget_old(where.folder)
+    kept.forget_old(where.folder)
 
 
 def grab(room: Path, target: Path, tool: str, root: Path) -> list[str]:
@@ -238,18 +194,6 @@ def words_of_reader(process: Path, pipe: Path) -> list[str]:
                 os.readlink(file) == str(pipe) for file in (process / "fd").iterdir()):
             return words[:-3]
     return []
-
-
-def forget_old(newest: Path) -> None:
-    """Removes what wasn't used for a day and isn't among the newest, and what calls that were killed left."""
-    day = time.time() - 24 * 3600
-    found = [(entry.stat().st_mtime, entry) for entry in newest.parent.iterdir()
-             if entry.is_dir() and entry != newest]
-    kept = sorted(entry for entry in found if not entry[1].name.startswith("new-"))[1 - MOST_KEPT:]
-    for used, folder in found:
-        if used < day and (used, folder) not in kept:
-            shutil.rmtree(folder, ignore_errors=True)
-            folder.with_suffix(".lock").unlink(missing_ok=True)
 
 
 # For the tools
