@@ -215,7 +215,7 @@ class Reckoning(unittest.TestCase):
     def test_where_single_crates_take_longer(self):
         for seed in range(20):
             chosen = random.Random(seed)
-            factors = {crate: chosen.uniform(0.7, 1.4) for crate in self.BELOW}
+            factors = {crate: chosen.uniform(0.8, 1.3) for crate in self.BELOW}
             self.assertEqual(self.worst(1.5, factors.get), [], seed)
 
     def test_what_is_kept_takes_no_time(self):
