@@ -1,23 +1,25 @@
 """How long the proving of some crates takes, and how far it is.
 
 A build is reckoned as `rt ci` goes: each crate once those that it stands on are done, those with the
-longest chain behind them first, as many side by side as there are processors. So what is proved at the
-end alone, and the compiling of the program, count in full. The processor minutes of the crates were
+longest chain behind them first, as many side by side as there are processors, and each on one (a second
+one gains next to nothing beside other work). So what is proved at the end alone, and the compiling of the
+program, count in full. The processor minutes of the crates were
 measured once; how fast this machine is, beside its other work, shows as the build goes on.
 """
 
 from typing import NamedTuple
 
-# Processor minutes of a crate's proof (rattle-kit-13f, Intel Xeon, 2.7 GHz, 1 December 2026), of the dearest;
+# Processor minutes of a crate's proof (rattle-kit-13f, Intel Xeon, 2.7 GHz, 30 November and 1 December 2026);
 # that of motion_main is nearly all its compiling, by two compilers.
 MINUTES = {
     "trace_text": 6.0, "segment_text": 4.0, "motion_kernel": 3.5, "motion_plant": 3.5, "axis_core": 2.9,
     "motion_main": 2.9, "motion_c": 2.6, "segment_check": 2.4, "bench_text": 2.3, "kernel_invariants": 2.0,
-    "st_check": 2.0, "hot_standby": 1.8, "group_core": 1.7, "machine_config": 1.7, "trace_check": 1.7,
-    "kernel_turn": 1.4, "trapezoid_plan": 1.0}
-MINUTES_A_CRATE, MINUTES_A_LINE = 0.2, 0.0003      # of the others
-# The proof of a crate uses two processors where others are idle; a compiler uses one.
-MOST_PROCESSORS, COMPILED = 2.0, ("motion_main",)
+    "st_check": 2.0, "motion_history": 1.9, "hot_standby": 1.8, "machine_words": 1.8, "group_core": 1.7,
+    "machine_config": 1.7, "trace_check": 1.7, "outside": 1.6, "kernel_turn": 1.4, "trapezoid_plan": 1.0,
+    "trace_columns": 1.0, "axis_state": 1.0, "cia402_machine": 0.9, "command_pool": 0.9, "st_job": 0.9,
+    "st_rounds": 0.9, "blend_plan": 0.8, "kin_core": 0.6, "linear_path": 0.4, "ramp_root": 0.4, "cam_table": 0.4,
+    "fb_outputs": 0.3, "buffer_modes": 0.3, "command_changes": 0.2, "command_core": 0.2, "state_events": 0.2}
+MINUTES_A_CRATE, MINUTES_A_LINE = 0.2, 0.0001      # of the others
 KEPT = 0.02
 # How much of the whole, and how many minutes at least, have to be done before the machine's own speed
 # counts more than the measured one.
@@ -42,19 +44,15 @@ def course(below: dict[str, list[str]], work: dict[str, float], processors: int)
         for low in below[crate]:
             behind[low] = max(behind[low], work[low] + behind[crate])
     waiting = sorted(below, key=lambda crate: -behind[crate])
-    left: dict[str, float] = {}
+    left: dict[str, float] = {}         # when those that are being proved end
     turns: list[Turn] = []
     now, done = 0.0, set[str]()
     while waiting or left:
         for crate in [it for it in waiting if done.issuperset(below[it])][:max(processors - len(left), 0)]:
             waiting.remove(crate)
-            left[crate] = work[crate]
-        share = processors / len(left)
-        speed = {crate: min(share, 1.0 if crate in COMPILED else MOST_PROCESSORS) for crate in left}
-        step = min(left[crate] / speed[crate] for crate in left)
-        now += step
-        left = {crate: left[crate] - step * speed[crate] for crate in left}
-        for crate in [it for it in left if left[it] < 1e-9]:
+            left[crate] = now + work[crate]
+        now = min(left.values())
+        for crate in [it for it in left if left[it] == now]:
             del left[crate]
             done.add(crate)
             turns.append(Turn(now, crate))

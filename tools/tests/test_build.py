@@ -188,10 +188,9 @@ class Reckoning(unittest.TestCase):
     def test_the_course_of_crates(self):
         self.assertEqual(course({"a": [], "b": [], "c": ["a", "b"]}, {"a": 4.0, "b": 1.0, "c": 2.0}, 1),
                          [(4, "a"), (5, "b"), (7, "c")])
-        # two processors for one crate, one for each of two, and one for a compiler
-        self.assertEqual(course({"a": [], "b": [], "motion_main": ["a", "b"]},
-                                {"a": 4.0, "b": 1.0, "motion_main": 2.0}, 2),
-                         [(1, "b"), (2.5, "a"), (4.5, "motion_main")])
+        # the one with the longer chain behind it first
+        self.assertEqual(course({"a": [], "b": [], "c": [], "d": ["b"]}, {"a": 4.0, "b": 1.0, "c": 2.0, "d": 5.0}, 2),
+                         [(1, "b"), (4, "a"), (6, "d"), (6, "c")])
 
     def worst(self, pace, factors, processors=4):
         """The worst estimates of a build in which each crate takes so much longer than was measured."""
