@@ -93,7 +93,8 @@ class Builds(unittest.TestCase):
     def test_motion_says_how_long_it_takes_and_how_to_see_a_trace_sooner(self):
         status, output, told = self.run_tool("motion", "check", "a")
         self.assertEqual((status, output), (0, "ran check a\n"))
-        first, second, *more = told.splitlines()
+        looking, first, second, *more = told.splitlines()
+        self.assertEqual(looking, "motion: looking for an earlier build of these files")
         self.assertRegex(first, r"^motion: proving and building 2 crates takes \d+ to \d+ minutes with \d+ proc")
         self.assertIn("tools/preview takes the same words", second)
         self.assertRegex("\n".join(more), "1 of 2 crates proved; the program is being compiled, about .* left"
@@ -107,7 +108,7 @@ class Builds(unittest.TestCase):
         self.top = self.room / "copy"
         status, output, told = self.run_tool("motion", "st")
         self.assertEqual((status, output), (0, "ran st\n"))
-        self.assertIn("an earlier build proved these very files with this kit", told)
+        self.assertIn("one proved these very files with this kit; taken from ", told)
         self.assertEqual(self.ran(), ["ci"])
 
     def test_a_change_of_a_proof_proves_anew(self):

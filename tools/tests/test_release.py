@@ -129,6 +129,15 @@ class Release(unittest.TestCase):
                                                      f"{hashlib.sha256(file.read_bytes()).hexdigest()}  motion\n"))
         self.assert_refused("called the kit", change)
 
+    def test_what_cannot_be_built_is_no_release(self):
+        library = self.top / "crates/otg/out/libotg.a"
+        library.rename(library.with_suffix(".away"))
+        self.addCleanup(library.with_suffix(".away").rename, library)
+        done = self.run_release(str(self.room / "other"))
+        self.assertEqual((done.returncode, done.stdout), (70, ""))
+        self.assertIn("rt of the Rattle kit isn't on the PATH", done.stderr)
+        self.assertEqual(list((self.room / "other").iterdir()), [])
+
     def test_words_that_are_none(self):
         self.assertEqual(self.run_release().returncode, 2)
         self.assertEqual(self.run_release("--more").returncode, 2)
