@@ -12,6 +12,7 @@ import fcntl
 import os
 import shlex
 import shutil
+import signal
 import subprocess
 import sys
 import tempfile
@@ -239,9 +240,14 @@ def state(root: Path = ROOT) -> int:
     return 1
 
 
+def interrupt(number: int, frame: object) -> None:
+    raise KeyboardInterrupt
+
+
 def main() -> int:
     """tools/preview."""
     words = sys.argv[1:]
+    signal.signal(signal.SIGTERM, interrupt)
     if words in (["--help"], ["-h"]):
         print(USAGE, end="")
         return 0
@@ -257,4 +263,7 @@ def main() -> int:
         say("preview", str(why))
     except OSError as error:
         say("preview", f"{error.filename}: {error.strerror}")
+    except KeyboardInterrupt:
+        say("preview", "interrupted; nothing was built")
+        return 130
     return 70
