@@ -5,7 +5,7 @@ use Rattle.std.specs.Int.{int_max}
 use Rattle.std.proofs.Common.{◌∙◌, sym, ap, subst, arith, inl, inr}
 use Rattle.std.proofs.lemmas.Bool.{and_from, or_left, or_right}
 use Rattle.std.proofs.lemmas.Int.{ints, clamps}
-use Rattle.blend_laws.specs.FirstMove.{FirstEnds, FirstEndsWithin, crossing_bound_of, first_bound_of, first_taken_of}
+use Rattle.axis_core.specs.FirstMove.{FirstEnds, FirstEndsWithin, crossing_bound_of, first_bound_of, first_taken_of}
 use Rattle.blend_plan.specs.BlendRun.{HasBlend, IsBlendWithin, blend_taken_of, has_crossed}
 use Rattle.blend_plan.specs.Blends.{BlendApplies, blend_applies, blend_velocity_of}
 use Rattle.blend_plan.specs.declared.modes.Blend.{Blend}

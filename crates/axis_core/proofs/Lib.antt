@@ -1,3 +1,6 @@
+pub mod BlendsKept
+pub mod SecondMoves
+pub mod FirstMoves
 pub mod SmallTargets
 pub mod Moving
 pub mod Blends

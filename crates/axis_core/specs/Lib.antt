@@ -1,3 +1,6 @@
+pub mod FirstMove
+pub mod SecondMove
+pub mod BlendGiven
 pub mod Along
 pub mod Ranges
 pub mod Steps

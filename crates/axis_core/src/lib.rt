@@ -8,6 +8,7 @@
 
 mod advancing;
 mod axis;
+mod blend_laws;
 mod blocks;
 mod calls;
 mod course_laws;
@@ -26,6 +27,7 @@ mod steps;
 mod taking_over;
 
 pub use axis::Axis;
+pub use blend_laws::{first_moves_end, second_targets_are_never_passed};
 pub use buffer_modes::PendingReset;
 pub use command_pool::{
     CommandPool, Finish, Follow, Note, Notes, OutOfMemory, Rates, Refusal, Wanted,

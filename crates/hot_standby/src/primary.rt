@@ -15,7 +15,7 @@ use crate::event::FedEvent;
 use crate::follower::{Follower, follow, switch_over};
 use crate::opening::open_standby;
 use motion_kernel::{Config, Inputs, Kernel, Outputs};
-use out_of_memory::OutOfMemory;
+use motion_numbers::OutOfMemory;
 use plc_types::{DriveIn, DriveOut};
 use std::alloc::Global;
 use std::marker::Model;

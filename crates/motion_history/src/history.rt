@@ -13,7 +13,7 @@ use crate::bits::{call_has_bits, group_row_has_bits, row_has_bits};
 use crate::config::Config;
 use crate::entry::{CallMade, CycleLook, EntryLook, Stored, call_at, rows_at, stored_at};
 use crate::touching::{NO_AXIS_ROW, NO_CALL, NO_GROUP_ROW, touch_room};
-use out_of_memory::OutOfMemory;
+use motion_numbers::OutOfMemory;
 use plc_types::{AxisRow, GroupRow, Inputs, Outputs};
 use std::alloc::{AllocError, Global};
 use std::marker::Model;

@@ -8,7 +8,7 @@ ghost use Rattle.scope_job.specs.Plans.{plan_of_scope, scope_plan};
 
 use job_ends::{Status, read_text, say_refused, status_by};
 use motion_history::TextFault;
-use out_of_memory::OutOfMemory;
+use motion_numbers::OutOfMemory;
 use outside::{Files, Sink};
 use scope_report::{reports_say_what_is_asked, scope, write_report};
 use std::alloc::Global;

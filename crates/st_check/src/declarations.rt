@@ -8,9 +8,9 @@ use crate::known::{Declaration, Known, Sort, ValueType};
 use crate::pile::push;
 use machine_words::is_whole;
 use motion_history::ConfigFault;
-use out_of_memory::OutOfMemory;
+use motion_numbers::OutOfMemory;
 use plc_types::Name;
-use st_parts::Part;
+use st_tree::Part;
 use st_tree::Start;
 
 /// The greatest number.

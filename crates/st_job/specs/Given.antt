@@ -9,7 +9,7 @@ use Rattle.motion_history.specs.declared.refused.TextFault.{TextFault}
 use Rattle.motion_history.specs.declared.refused.TextFault.TheVariants.{Refused, OutOfMemory}
 use Rattle.outside.specs.Told.{FileMap}
 use Rattle.st_check.specs.Reading.{Outcome, reading_of}
-use Rattle.st_lang.specs.Spelled.{IsStText}
+use Rattle.st_build.specs.Spelled.{IsStText}
 use Rattle.trace_text.specs.writing.Writes.{Output}
 use Rattle.st_rounds.specs.Ready.{AreReady}
 use Rattle.st_rounds.specs.declared.cell.Controller.{Controller}

@@ -11,7 +11,7 @@ use machine_config::{Machine, read_config};
 use motion_history::{Builder, Config, TextFault};
 use outside::{Files, Sink};
 use st_exec::{compile, scans_call_the_machine};
-use st_lang::read_st;
+use st_build::read_st;
 use st_rounds::Controller;
 use std::alloc::Global;
 

@@ -1,7 +1,7 @@
 // Reading a switch file.
 
 ghost use Rattle.std.specs.Prelude.{◌≡◌, List, IfOk, Ok};
-ghost use Rattle.cam_switch.specs.declared.switch.Switch.{Switch};
+ghost use Rattle.switch_text.specs.declared.switch.Switch.{Switch};
 ghost use Rattle.line_text.specs.Reading.{at_line};
 ghost use Rattle.machine_words.specs.Rules.{refused_by, told_as};
 ghost use Rattle.switch_text.specs.Reading as spec;

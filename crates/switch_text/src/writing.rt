@@ -1,16 +1,18 @@
 // Writing the edges of switches in a trace.
 
 ghost use Rattle.std.specs.Prelude.{◌≡◌, ◌≤◌, ◌<◌, ◌+◌, ◌^◌, IfOk, OnOk, List, map, length, take};
-ghost use Rattle.cam_switch.specs.Watches.{watch_of};
-ghost use Rattle.cam_switch.specs.declared.switch.Switch.{Switch};
+ghost use Rattle.switch_text.specs.Watches.{watch_of};
+ghost use Rattle.switch_text.specs.declared.switch.Switch.{Switch};
 ghost use Rattle.switch_text.specs.Lines as spec;
 ghost use Rattle.switch_text.specs.UnderWay.{IsBehind};
 ghost use Rattle.trace_text.specs.TraceState.{entries_of};
 ghost use Rattle.trace_text.specs.writing.Writes.{Writes};
 
+use crate::laws::watches_go_on;
 use crate::lines::push_cycle;
+use crate::switch::Switch;
 use crate::switches::Switches;
-use cam_switch::{Switch, Watch, watches_go_on};
+use crate::watch::Watch;
 use motion_history::{EntryLook, OutOfMemory};
 use outside::{Sink, write_all};
 use std::alloc::{AllocError, Global};

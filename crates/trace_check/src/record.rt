@@ -6,7 +6,7 @@ ghost use Rattle.line_text.specs.Texts.{texts};
 ghost use Rattle.trace_text.specs.reading.Reading as spec;
 
 use csv::ByteRecord;
-use csv_records::field;
+use trace_columns::field;
 use line_text::says;
 use motion_history::OutOfMemory;
 use std::alloc::Global;

@@ -2,7 +2,7 @@
 
 ghost use Rattle.std.specs.Prelude.{◌≡◌, ◌<◌, ℕ, IfOk, Some, slice_get};
 ghost use Rattle.std.specs.Option.{option_map};
-ghost use Rattle.csv_records.specs.Records.{records_of};
+ghost use Rattle.trace_columns.specs.Records.{records_of};
 ghost use Rattle.motion_history.specs.Looks.{told};
 ghost use Rattle.trace_text.specs.Records.{padded};
 ghost use Rattle.trace_text.specs.Trace.{entry_records};
@@ -13,7 +13,7 @@ ghost use Rattle.trace_text.specs.TraceKept.{IsTraceKept};
 
 use crate::record::Record;
 use csv::ByteRecord;
-use csv_records::{next_record, open_records};
+use trace_columns::{next_record, open_records};
 use itoa::Buffer;
 use motion_history::{Config, EntryLook, OutOfMemory, TraceVersion};
 use std::alloc::Global;

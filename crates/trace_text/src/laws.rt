@@ -6,7 +6,7 @@ ghost use Rattle.trace_text.specs.ReadBack.{AreRowsReadBack, EntriesAreReadBack,
 ghost use Rattle.trace_text.specs.writing.Writes.{WritesPrefix};
 
 use cam_table::cam_tables_are_told;
-use csv_records::written_records_are_read_back;
+use trace_columns::written_records_are_read_back;
 use motion_history::axes_are_in_range;
 use plc_types::names_are_read_back;
 use trace_columns::columns_are_read_back;

@@ -12,7 +12,7 @@ use crate::look::{GroupLook, states_in};
 use crate::states::{any_moved, is_error_stop};
 use buffer_modes::{PendingReset, tell_reset};
 use command_pool::{Finish, Notes, Wanted};
-use group_state::{GroupEvent, group_next};
+use axis_state::{GroupEvent, group_next};
 use plc_types::GroupState;
 
 /// A GroupReset is pending; one that it replaces is aborted.
