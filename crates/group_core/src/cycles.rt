@@ -98,6 +98,7 @@ fn run(
     ensures others { pool.new ≡ slice_set pool.old list (queue_of pool.new list) }
     ensures kept { IsCoreKept (limits_in members.now) (core_at on.new pool.new list notes.new) }
 {
+    // laws
     ends_tell_their_owners();
     standing_is_kept();
     taken_steps_keep();

@@ -19,6 +19,7 @@ pub fn run_load<K: Sink>(alloc: Global, seed: u32, out: &mut K) -> Status
     ensures { EndsByLoad seed (record { count = K.count out.old; told = K.told out.old })
         (record { count = K.count out.new; told = K.told out.new }) result }
 {
+    // laws
     loads_fill_their_room();
     room_is_enough();
     runs_are_in_step();

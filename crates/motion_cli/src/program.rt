@@ -137,6 +137,7 @@ pub fn top<F: Files, K: Sink, H: Host + Wait + Sync, G: Gate + Drop + Send + 'st
     ensures joined { JoinsAll spawner.old.jobs spawner.new.jobs }
     ensures alone { run_of words.now ≡ None → spawner.new ≡ spawner.old }
 {
+    // laws
     room_leads_to_ok();
     match asked(alloc, words) {
         Ok(asked) => serve(rt, alloc, asked, files, out, spawner, gate),

@@ -23,6 +23,7 @@ pub fn new_table(
     ensures faults { (fault : ConfigFault) → fault ≢ ConfigFault.OutOfMemory →
         (result ≡ Err fault) ↔ IsPointsFault tables points.now fault }
 {
+    // laws
     points_have_one_fault();
     let full = tables >= MOST_TABLES;
     match CamTable::new(alloc, points) {

@@ -34,6 +34,7 @@ pub fn scope_file<F: Files, K: Sink, H: Threads + Sync>(
         (record { count = K.count out.old; told = K.told out.old })
         (record { count = K.count out.new; told = K.told out.new }) result }
 {
+    // laws
     reports_say_what_is_asked();
     match read_text(alloc, 1, name, MOST_BYTES, files, out) {
         Ok(text) => scope_text(rt, alloc, name, text.as_slice(), workers, out),

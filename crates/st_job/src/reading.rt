@@ -98,6 +98,7 @@ fn controller_of(alloc: Global, machine: Machine, text: &[u8]) -> Result<Control
         cycle_us,
         drives,
     } = machine;
+    // laws
     scans_call_the_machine();
     let program = read_st(alloc, text, &mut config)?;
     let Ok(code) = compile(alloc, &program, cycle_us) else {

@@ -27,6 +27,7 @@ pub fn read_switches(alloc: Global, text: &[u8], config: &Config) -> Result<Swit
     // A text that has none is refused so.
     ensures exact { ReadsBy (spec.switches_of config.now text.now) result }
 {
+    // laws
     lines_are_spelled();
     read(alloc, text, config)
 }

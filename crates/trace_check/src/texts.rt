@@ -48,6 +48,7 @@ pub fn entry_record(
         option_map padded (slice_get (entry_records version config.now (told entry.now)) place) ≡
         Some r) }
 {
+    // laws
     records_are_read_back();
     let text = entry_piece(alloc, version, config, entry)?;
     record_at(alloc, text.as_slice(), place)
