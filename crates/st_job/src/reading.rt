@@ -10,8 +10,8 @@ use job_ends::{Status, read_text, say_refused};
 use machine_config::{Machine, read_config};
 use motion_history::{Builder, Config, TextFault};
 use outside::{Files, Sink};
-use st_exec::{compile, scans_call_the_machine};
 use st_build::read_st;
+use st_exec::{compile, scans_call_the_machine};
 use st_rounds::Controller;
 use std::alloc::Global;
 
