@@ -78,8 +78,8 @@ fn row(input: &DriveIn, axis: &Axis) -> AxisRow
     }
 }
 
-// A cycle of the axis, before it is shown.
-fn cycle_axis(look: &AxisLook, axis: &mut Axis, pool: &mut CommandPool, list: u8, notes: &mut Notes)
+// The axis goes through a cycle, before it is shown.
+fn go_through(look: &AxisLook, axis: &mut Axis, pool: &mut CommandPool, list: u8, notes: &mut Notes)
     requires list { list < length pool.old }
     requires room { notes.old ≡ [] }
     requires kept { IsCoreKept (core_at axis.old pool.old list notes.old) }
@@ -131,6 +131,6 @@ pub fn cycle_and_show(
 {
     // laws
     offsets_are_small();
-    cycle_axis(look, axis, pool, list, notes);
+    go_through(look, axis, pool, list, notes);
     row(&look.input, axis)
 }

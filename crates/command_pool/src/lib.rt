@@ -11,8 +11,8 @@ mod rates;
 mod wanted;
 
 pub use ending::{Finish, Refusal};
-pub use notes::{Note, Notes};
 pub use motion_numbers::OutOfMemory;
+pub use notes::{Note, Notes};
 pub use pool::CommandPool;
 pub use rates::Rates;
 pub use wanted::{Follow, Wanted, without};

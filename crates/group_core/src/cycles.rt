@@ -19,9 +19,9 @@ use crate::look::{GroupLook, GroupStep};
 use crate::moving::step_along;
 use crate::states::{is_error_stop, is_stopping, may_fail};
 use crate::taking_over::{end_by, fail};
+use axis_state::{GroupEvent, group_next};
 use buffer_modes::ends_tell_their_owners;
 use command_pool::{CommandPool, Finish, Notes};
-use axis_state::{GroupEvent, group_next};
 use kin_core::{braking_steps_are_only_cut, standing_is_kept, taken_steps_keep};
 use linear_path::LinePath;
 

@@ -19,9 +19,9 @@ use crate::blocks::halts::hold_by;
 use crate::group::{Group, GroupOnPath, Motion, Track};
 use crate::kinds::event_of;
 use crate::look::{GroupLook, limits_in};
+use axis_state::{GroupEvent, group_next};
 use buffer_modes::abort_all;
 use command_pool::{CommandPool, Finish, Notes, Wanted};
-use axis_state::{GroupEvent, group_next};
 use linear_path::{LinePath, path_limits};
 use plc_types::GroupState;
 

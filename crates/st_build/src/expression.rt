@@ -10,8 +10,7 @@ ghost use Rattle.st_tree.specs.Places.{Around, Inside, Passes};
 
 use crate::cursor::{begins, push};
 use motion_numbers::OutOfMemory;
-use st_tree::Part;
-use st_tree::{Expr, Operator, Term};
+use st_tree::{Expr, Operator, Part, Term};
 use std::alloc::Global;
 
 // Whether two operators are of one level of the grammar that may have more than two operands.

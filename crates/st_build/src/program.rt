@@ -11,8 +11,7 @@ ghost use Rattle.st_tree.specs.declared.part.Part.{Part};
 use crate::cursor::{go_over, next, push};
 use crate::statement::body_at;
 use motion_numbers::OutOfMemory;
-use st_tree::Part;
-use st_tree::{Name, StProgram, Start, Task, Variable};
+use st_tree::{Name, Part, StProgram, Start, Task, Variable};
 use std::alloc::Global;
 
 // The name at this place, which is gone over.

@@ -10,8 +10,7 @@ ghost use Rattle.st_tree.specs.declared.part.Part.{Part};
 use crate::cursor::{begins, go_over, next, push};
 use crate::expression::expr_at;
 use motion_numbers::OutOfMemory;
-use st_tree::Part;
-use st_tree::{Branch, Expr, Given, Stmt};
+use st_tree::{Branch, Expr, Given, Part, Stmt};
 use std::alloc::Global;
 
 // Whether a call ends at this place.

@@ -14,8 +14,8 @@ use line_text::LineRefused;
 use motion_history::Builder;
 use motion_numbers::OutOfMemory;
 use plc_types::Name;
-use st_tree::Part;
 use st_tokens::Token;
+use st_tree::Part;
 use std::marker::Model;
 
 /// The most tokens of a text, besides its end.

@@ -10,8 +10,7 @@ use machine_words::is_whole;
 use motion_history::ConfigFault;
 use motion_numbers::OutOfMemory;
 use plc_types::Name;
-use st_tree::Part;
-use st_tree::Start;
+use st_tree::{Part, Start};
 
 /// The greatest number.
 pub const MOST: u32 = 2147483647;

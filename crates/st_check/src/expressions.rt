@@ -10,8 +10,7 @@ use crate::known::{Sort, Used, ValueType};
 use crate::pile::push;
 use motion_numbers::OutOfMemory;
 use plc_types::Name;
-use st_tree::Part;
-use st_tree::{Flag, Operator};
+use st_tree::{Flag, Operator, Part};
 
 // Whether two types are the same.
 pub fn is_same(a: ValueType, b: ValueType) -> bool

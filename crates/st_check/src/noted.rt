@@ -7,8 +7,7 @@ use crate::checker::Checker;
 use crate::known::ValueType;
 use motion_numbers::OutOfMemory;
 use st_grammar::Note;
-use st_tree::Part;
-use st_tree::Start;
+use st_tree::{Part, Start};
 
 impl Checker {
     /// Takes a note of a token in this line.

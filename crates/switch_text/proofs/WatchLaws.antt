@@ -1,5 +1,5 @@
 -- Switches go on by one cycle more.
--- for: watches_go_on
+-- for: write_edges
 use Rattle.std.proofs.Common.{◌≡◌, ℕ, zero, suc, Some, List, [], ◌∷◌, ◌++◌, take, refl, ap, sym, ◌∙◌}
 use Rattle.std.specs.Prelude.{slice_get}
 use Rattle.plc_types.specs.declared.axis.AxisRow.{AxisRow}

@@ -13,10 +13,10 @@ ghost use Rattle.trace_text.specs.TraceKept.{IsTraceKept};
 
 use crate::record::Record;
 use csv::ByteRecord;
-use trace_columns::{next_record, open_records};
 use itoa::Buffer;
 use motion_history::{Config, EntryLook, OutOfMemory, TraceVersion};
 use std::alloc::Global;
+use trace_columns::{next_record, open_records};
 use trace_text::{Trace, entry_piece, records_are_read_back};
 
 // The record at a place of a text, counted from 0. It is there, and has twelve fields.

@@ -26,7 +26,11 @@ fn is_velocity_within(limits: &Limits, wanted: &Wanted) -> bool
         IsBetween (least_velocity_of wanted.now.kind limits.now) wanted.now.rates.v limits.now.vmax) }
 {
     !takes(wanted.kind, Input::Velocity)
-        || is_between(least_velocity(wanted.kind, limits), wanted.rates.v, limits.vmax)
+        || is_between(
+            least_velocity(wanted.kind, limits),
+            wanted.rates.v,
+            limits.vmax,
+        )
 }
 
 // Whether Acceleration is within the limits, if the kind takes one.

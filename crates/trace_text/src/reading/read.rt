@@ -25,11 +25,11 @@ use crate::reading::rule::{NOT_TWELVE, TOO_SHORT};
 use crate::records::FIELDS;
 use crate::trace::Trace;
 use csv::ByteRecord;
-use trace_columns::{field, next_record, open_records};
 use line_text::{LineFault, LineRefused, LinesFault};
 use machine_words::{KnownBlocks, refused_by};
 use motion_history::{Builder, OutOfMemory, TextFault, TraceVersion};
 use std::alloc::Global;
+use trace_columns::{field, next_record, open_records};
 
 /// The trace that a text is. A text that is none is refused at its first record that breaks a rule,
 /// counted from 1, by the first rule that it breaks: T1 to T6. It takes memory for one record at a
