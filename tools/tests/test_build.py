@@ -13,7 +13,8 @@ import unittest
 
 from tool_runner import TOOLS
 
-from progress import Progress, course  # pylint: disable=wrong-import-order
+import crates as repository  # pylint: disable=wrong-import-order
+from progress import MINUTES, Progress, course  # pylint: disable=wrong-import-order
 
 RT = """\
 #!/bin/sh
@@ -185,6 +186,10 @@ class Reckoning(unittest.TestCase):
     BELOW = {"base": [], **{f"text{n}": ["base"] for n in range(12)}, "core": ["base"], "kernel": ["core"],
              "laws": ["kernel"], "cli": ["laws", *[f"text{n}" for n in range(12)]], "motion_main": ["cli"]}
     LINES = {crate: 2000 + 300 * (number % 5) for number, crate in enumerate(BELOW)}
+
+    def test_each_crate_that_was_measured_is_there(self):
+        crates = repository.crates_of((repository.TOP / "crates.txt").read_text(encoding="utf-8"))
+        self.assertEqual([crate for crate in MINUTES if crate not in crates], [])
 
     def test_the_course_of_crates(self):
         self.assertEqual(course({"a": [], "b": [], "c": ["a", "b"]}, {"a": 4.0, "b": 1.0, "c": 2.0}, 1),
