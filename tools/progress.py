@@ -67,6 +67,7 @@ class Progress:
         self.below, self.processors, self.tail = below, processors, tail
         self.work = {crate: minutes_of(crate, lines[crate]) for crate in below}
         self.done: set[str] = set()
+        self.counted, self.since, self.estimate = -1, 0.0, 0.0
         self.reckon()
 
     def reckon(self) -> None:
@@ -97,8 +98,11 @@ class Progress:
         return self.whole
 
     def left(self, spent: float) -> float:
-        """How many minutes the rest takes, where so many were spent."""
-        reached, whole = self.reached(), self.whole + self.tail
-        prior = max(SHARE * whole, LEAST)
-        pace = (spent + prior) / (reached + prior)
-        return (whole - reached) * pace
+        """How many minutes the rest takes, where so many were spent. It is reckoned at the end of a crate; while
+        the next is awaited it falls, to a fifth at most."""
+        if len(self.done) != self.counted:
+            reached, whole = self.reached(), self.whole + self.tail
+            prior = max(SHARE * whole, LEAST)
+            self.estimate = (whole - reached) * (spent + prior) / (reached + prior)
+            self.counted, self.since = len(self.done), spent
+        return max(self.estimate - (spent - self.since), self.estimate / 5)

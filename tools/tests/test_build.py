@@ -231,6 +231,11 @@ class Reckoning(unittest.TestCase):
                 progress.add(crate, is_kept=True)
         self.assertLess(progress.left(0.1), whole * 0.6)
         self.assertGreater(progress.left(0.1), progress.work["motion_main"])
+        # while the compiling goes on
+        progress.add("cli")
+        left = progress.left(1.0)
+        self.assertAlmostEqual(progress.left(2.0), left - 1.0)
+        self.assertAlmostEqual(progress.left(60.0), left / 5)
 
     def test_a_crate_is_noted_once(self):
         progress = Progress(self.BELOW, self.LINES, 4)
