@@ -9,16 +9,19 @@ measured once; how fast this machine is, beside its other work, shows as the bui
 
 from typing import NamedTuple
 
-# Processor minutes of a crate's proof (rattle-kit-13f, Intel Xeon, 2.7 GHz, 30 November and 1 December 2026);
-# that of motion_main is nearly all its compiling, by two compilers.
+# Processor minutes of a crate's proof (rattle-kit-13f, Intel Xeon, 2.7 GHz, 30 November 2026; those of the
+# crates that docs/architecture.md doesn't name were measured on a slower machine beside other work, and are
+# two thirds of that). That of motion_main is nearly all its compiling, by two compilers.
 MINUTES = {
-    "trace_text": 6.0, "segment_text": 4.0, "motion_kernel": 3.5, "motion_plant": 3.5, "axis_core": 2.9,
-    "motion_main": 2.9, "motion_c": 2.6, "segment_check": 2.4, "bench_text": 2.3, "kernel_invariants": 2.0,
-    "st_check": 2.0, "motion_history": 1.9, "hot_standby": 1.8, "machine_words": 1.8, "group_core": 1.7,
-    "machine_config": 1.7, "trace_check": 1.7, "outside": 1.6, "kernel_turn": 1.4, "trapezoid_plan": 1.0,
-    "trace_columns": 1.0, "axis_state": 1.0, "cia402_machine": 0.9, "command_pool": 0.9, "st_job": 0.9,
-    "st_rounds": 0.9, "blend_plan": 0.8, "kin_core": 0.6, "motion_laws": 0.5, "linear_path": 0.4, "ramp_root": 0.4,
-    "cam_table": 0.4, "fb_outputs": 0.3, "buffer_modes": 0.3, "command_changes": 0.2, "command_core": 0.2, "state_events": 0.2}
+    "trace_text": 6.0, "segment_text": 4.0, "motion_kernel": 3.5, "motion_plant": 3.5,
+    "axis_core": 2.9, "motion_main": 2.9, "motion_c": 2.6, "segment_check": 2.4, "bench_text": 2.3,
+    "kernel_invariants": 2.0, "st_check": 2.0, "motion_history": 1.9, "hot_standby": 1.8,
+    "machine_words": 1.8, "group_core": 1.7, "machine_config": 1.7, "trace_check": 1.7,
+    "outside": 1.6, "kernel_turn": 1.4, "trapezoid_plan": 1.0, "trace_columns": 1.0,
+    "axis_state": 1.0, "cia402_machine": 0.9, "command_pool": 0.9, "st_job": 0.9, "st_rounds": 0.9,
+    "blend_plan": 0.8, "kin_core": 0.6, "motion_laws": 0.5, "linear_path": 0.4, "ramp_root": 0.4,
+    "cam_table": 0.4, "fb_outputs": 0.3, "buffer_modes": 0.3, "command_changes": 0.2,
+    "command_core": 0.2, "state_events": 0.2}
 MINUTES_A_CRATE, MINUTES_A_LINE = 0.2, 0.0001      # of the others
 KEPT = 0.02
 # How much of the whole, and how many minutes at least, have to be done before the machine's own speed

@@ -57,7 +57,8 @@ def proved(root: Path = ROOT) -> Optional[Path]:
     if not os.access(program, os.X_OK):
         return None
     built = program.stat().st_mtime_ns
-    is_old = any(file.stat().st_mtime_ns > built for file in root.glob("crates/*/src/**/*"))
+    sources = [*root.glob("crates/*/src"), *root.glob("crates/*/src/**/*")]
+    is_old = any(file.stat().st_mtime_ns > built for file in sources)
     return None if is_old else program
 
 
