@@ -64,12 +64,11 @@ class Refusals(unittest.TestCase):
             "  rule: a number is outside its range"])
         self.assertIn("cure: AMAX is at least 2", output)
 
-    def test_the_old_name_is_an_alias(self):
+    def test_a_refusal_is_read_from_a_pipe(self):
         with tempfile.TemporaryDirectory() as folder:
             file = pathlib.Path(folder) / "my.bench"
             file.write_text(BENCH)
-            for name in ("told", "explain"):
-                self.assertIn("error B3", run(name, file, text=f"refused {file} 9 B3\n")[1])
+            self.assertIn("error B3", run("explain", file, text=f"refused {file} 9 B3\n")[1])
 
     def test_every_rule_is_explained(self):
         for rule in hints.texts()["rule"]:
