@@ -61,6 +61,27 @@ def fault_at(text: str, place: int, rule: str) -> Optional[Fault]:
     return None
 
 
+def faults_of(text: str) -> list[Fault]:
+    """What breaks a rule at each place, by the first rule that is broken there."""
+    try:
+        data = tomllib.loads(text.removeprefix("\ufeff"))
+    except (tomllib.TOMLDecodeError, RecursionError):
+        fault = fault_at(text, 0, "C1")
+        return [fault] if fault else []
+    faults: list[Fault] = []
+    for place in range(len(items_of(data)) + 1):
+        for rule in [f"C{number}" for number in range(2, 8)]:
+            try:
+                found = [placed(text, rule, *each)
+                         for each in broken(data, place, rule, units_in(text))]
+            except (KeyError, TypeError, ValueError, AttributeError, ZeroDivisionError):
+                break
+            if found:
+                faults += found
+                break
+    return faults
+
+
 def syntax_fault(text: str, says: str) -> Fault:
     """Where a text ceases to be TOML."""
     found = re.search(r"\s*\(at line (\d+), column (\d+)\)", says)
