@@ -50,7 +50,7 @@ def misplaced(file: str, there: str, wanted: str, rule: str) -> Finding:
     """A file of another kind than the one that was read in its position."""
     names = hints.texts()["kind"]
     return Finding("error", rule, f"{file} is {names[there]}, and was read as {names[wanted]}",
-                   hints.texts()["position"][wanted], hints.rule(rule)[0], file)
+                   hints.texts()["position"][wanted], file=file)
 
 
 def below(options: argparse.Namespace, kind: str, text: str, place: int,

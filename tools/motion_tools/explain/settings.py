@@ -305,9 +305,9 @@ def drive_faults(item: dict[str, Any]) -> Iterator[tuple[str, str]]:
 
 def count_faults(item: dict[str, Any], kind: str) -> Iterator[tuple[str, str]]:
     """Too few or too many axes of a group, or faults of a drive."""
-    if kind == "group":
+    if kind == "group" and not 2 <= len(item["axes"]) <= 6:
         yield "axes", f"the group has {len(item['axes'])} axes, and has 2 to 6"
-    else:
+    if kind == "axis" and len(item.get("faults", [])) > 1000:
         yield "faults", f"the drive has {len(item.get('faults', []))} faults, and has 1,000 at most"
 
 

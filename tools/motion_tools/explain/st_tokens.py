@@ -146,7 +146,7 @@ class Tokens:
                 says += f", after {self.before.text} in line {self.before.line}"
         else:
             says = f"{here.text} stands where {wanted} is expected{more}"
-            if self.opened and (here.kind == "end" or here.text in ENDS):
+            if self.opened and (here.kind in ("end", "number") or here.text in ENDS):
                 says += f"; open are {open_words(self.opened)}"
         self.goes_on = wanted == ";" and (here.text in ENDS or self.before.line != here.line)
         length = len(here.text) if here.kind != "end" else 1
