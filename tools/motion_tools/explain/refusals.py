@@ -58,7 +58,7 @@ def below(options: argparse.Namespace, kind: str, text: str, place: int,
     """The faults below the first one, one a line, where this reader goes on."""
     axes, groups = names_of(options)
     if kind == "config":
-        found = [fault for fault in settings.faults_of(text) if fault != first]
+        found = [fault for fault in settings.faults_of(text) if fault.line != first.line]
     elif kind == "st":
         found = [fault for fault in st.faults_of(text, axes, groups) if fault.line > first.line]
     elif kind in ("program", "bench", "switches"):

@@ -71,6 +71,8 @@ def faults_of(text: str) -> list[Fault]:
     faults: list[Fault] = []
     for place in range(len(items_of(data)) + 1):
         for rule in [f"C{number}" for number in range(2, 8)]:
+            if rule == "C5" and any("cycle_us" in fault.says for fault in faults):
+                break                       # the ranges of rates depend on it
             try:
                 found = [placed(text, rule, *each)
                          for each in broken(data, place, rule, units_in(text))]
@@ -265,7 +267,7 @@ def range_faults(item: dict[str, Any], cycle_us: int, unit: str) -> Iterator[tup
             yield "increment", (f"{key} is {number[key] // increment:,} increments, which is no "
                                 "number of 32 bits; take a greater increment")
     start = number["start"]
-    if not lo <= start <= hi:
+    if lo < hi and not lo <= start <= hi:
         yield "start", (f"start is {decimal(start)}, and has to be from lo to hi, {decimal(lo)} to "
                         f"{decimal(hi)}")
     elif (start / increment).denominator != 1:
