@@ -119,7 +119,8 @@ def turn(options: argparse.Namespace) -> bool:
         points = [(float(x), float(y)) for x, y in config.tables[options.table - 1]]
     else:
         points = made(options, bounds)
-        write(options, config, points, sys.stdout)
+        if bounds.is_inside(points):
+            write(options, config, points, sys.stdout)
     sys.stderr.write("".join(report(points, bounds, master, options)))
     return bounds.fits(points)
 
@@ -164,7 +165,11 @@ class Bounds:
     def fits(self, points: Sequence[Point]) -> bool:
         """Whether the slave can follow."""
         return (self.velocity(points) <= self.vmax and self.acceleration(points)[0] <= self.amax
-                and all(float(self.slave.lo) <= y <= float(self.slave.hi) for _, y in points))
+                and self.is_inside(points))
+
+    def is_inside(self, points: Sequence[Point]) -> bool:
+        """Whether all points lie within the slave's limits."""
+        return all(float(self.slave.lo) <= y <= float(self.slave.hi) for _, y in points)
 
     def is_within(self, points: Sequence[Point], share: float) -> bool:
         """Whether the acceleration stays within a share of amax."""
@@ -310,7 +315,10 @@ def report(points: Sequence[Point], bounds: Bounds, master: AxisConfig,
              f"{acceleration / bounds.amax:.0%} of amax, at {master.name} {at:.6g} {master.unit}\n"]
     outside = [y for _, y in points if not float(slave.lo) <= y <= float(slave.hi)]
     if outside:
-        lines.append(f"error: {slave.name} would go to {outside[0]:g} {unit}, beyond its limits\n")
+        none = "" if options.table is not None else "; no table was written"
+        lines.append(f"error: {slave.name} would go to {outside[0]:g} {unit}, beyond its limits, "
+                     f"{float(slave.lo):g} to {float(slave.hi):g} {unit}{none}. Points are in the "
+                     "machine's units\n")
     if acceleration > bounds.amax:
         lines.append(too_much(points, bounds, options, master))
     if velocity > bounds.vmax:

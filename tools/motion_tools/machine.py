@@ -24,6 +24,7 @@ from motion_tools.explain import command as explain
 from motion_tools.explain.findings import words_of as text_of
 from motion_tools.explain.texts import kind_of
 from motion_tools.plot import command as plot
+from motion_tools.plot import files
 from motion_tools.trace import SECONDS_OF_SILENCE, ReadFault, TraceError
 
 SECONDS_OF_THREADS = 10.0
@@ -41,8 +42,9 @@ def parser() -> argparse.ArgumentParser:
     words.add_argument("-o", "--output", metavar="FILE", default="run.trace",
                        help="the file for the trace; left out, run.trace")
     words.add_argument("--plot", metavar="FILE", action="append", default=[],
-                       help="draws the run too: as a page where the name ends with .html, else as "
-                       "an SVG; may be given several times")
+                       help="draws the run too: as a page where the name ends with .html, as a PNG "
+                       "or a PDF where it ends so and rsvg-convert, inkscape or chromium is there, "
+                       "else as an SVG; may be given several times")
     words.add_argument("--check", action="store_true",
                        help="verifies the trace by its replay, as `motion check` does")
     words.add_argument("--strict", action="store_true", help="ends with 1 where there is a warning")
@@ -73,6 +75,9 @@ def main() -> int:
 def run(options: argparse.Namespace) -> int:
     """Runs the machine, explains it, and draws it."""
     words = words_of(options.files)
+    for picture in options.plot:
+        if why := files.refusal(picture):
+            raise WrongFiles(f"--plot {why}")
     program = options.motion or str(programs.chosen("motion-run"))
     status = made([program, *words], Path(options.output))
     trace = Path(options.output)
@@ -153,6 +158,6 @@ def checked(program: str, trace: str) -> int:
 def draw(trace: str, config: Optional[str], picture: str) -> None:
     """Draws a trace into a file."""
     words = [trace, "-o", picture] + (["--config", config] if config else [])
-    options = plot.parser().parse_args(words + (["--html"] if picture.endswith(".html") else []))
+    options = plot.parser().parse_args(words + (["--html"] if files.is_page(picture) else []))
     plot.turn(options)
     print(f"the picture is in {picture}", file=sys.stderr)

@@ -179,7 +179,7 @@ def completion() -> str:
     parts += ["        esac\n", "    else\n",
               '        _motion_files "bench|toml|prog|st|trace|segment|switches|edges"\n', "    fi\n",
               "}\n\n", "complete -F _motion motion\n",
-              f"complete -F _motion_tool {' '.join([*TOOLS, 'told'])}\n"]
+              f"complete -F _motion_tool {' '.join(TOOLS)}\n"]
     return "".join(parts)
 
 

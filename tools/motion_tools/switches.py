@@ -21,6 +21,8 @@ from motion_tools import command, programs
 from motion_tools.explain import hints, lines
 from motion_tools.explain.faults import Fault, chosen
 from motion_tools.explain.findings import Finding, words_of
+from motion_tools.explain.switch_units import small_positions
+from motion_tools.explain.texts import kind_by_text
 from motion_tools.explain.verdicts import verdict_findings
 from motion_tools.plot.edges import EdgeError, read_edges
 from motion_tools.trace import Machine, ReadFault, Trace, lines_of
@@ -55,7 +57,10 @@ def main() -> int:
 
 
 def turn(options: argparse.Namespace) -> int:
-    """Finds the edges, writes them, and gives the status."""
+    """Finds the edges, writes them, and gives the status. Raises LookupError."""
+    if kind_by_text(options.trace) == "switches" or kind_by_text(options.file) == "trace":
+        raise LookupError("the trace is the first word and the switch file the second: "
+                          f"tools/switches {options.file} {options.trace}")
     machine = Trace(lines_of(options.trace)).machine
     units = command.units_of(options, machine)
     text = text_of(options.file)
@@ -64,7 +69,10 @@ def turn(options: argparse.Namespace) -> int:
         sys.stderr.write(words_of(failure(options, made.stdout, text, machine)))
         return made.returncode
     sys.stdout.write(times(made.stdout, units) if options.times else made.stdout)
-    sys.stderr.write(words_of(idle(options, text, made.stdout, units)))
+    found = idle(options, text, made.stdout, units)
+    if not units.scales:
+        found = [*small_positions(machine, options.file, text, units), *found]
+    sys.stderr.write(words_of(found))
     return command.READ
 
 

@@ -13,7 +13,7 @@ from tool_runner import EXAMPLES, TOOLS, call, run
 from motion_tools.explain import hints, history, lines, scans, settings, st
 from motion_tools.explain.command import main
 from motion_tools.explain.faults import chosen, marked
-from motion_tools.trace import Trace, lines_of
+from motion_tools.trace import BLOCK_KINDS, Trace, lines_of
 
 ROOT = TOOLS.parent
 REFUSED = ROOT / ".ci" / "refused"
@@ -64,12 +64,11 @@ class Refusals(unittest.TestCase):
             "  rule: a number is outside its range"])
         self.assertIn("cure: AMAX is at least 2", output)
 
-    def test_the_old_name_is_an_alias(self):
+    def test_a_refusal_is_read_from_a_pipe(self):
         with tempfile.TemporaryDirectory() as folder:
             file = pathlib.Path(folder) / "my.bench"
             file.write_text(BENCH)
-            for name in ("told", "explain"):
-                self.assertIn("error B3", run(name, file, text=f"refused {file} 9 B3\n")[1])
+            self.assertIn("error B3", run("explain", file, text=f"refused {file} 9 B3\n")[1])
 
     def test_every_rule_is_explained(self):
         for rule in hints.texts()["rule"]:
@@ -235,8 +234,15 @@ class Verdicts(unittest.TestCase):
             self.assertEqual(call(main, code)[0], 0, code)
         self.assertEqual(run("explain", "S9")[0], 2)
         self.assertEqual(run("explain", "status", "11")[0], 2)
-        status, _, message = run("explain", "B3", "E1")
-        self.assertEqual((status, message), (2, "explain: there is no rule E1: see docs/rules.md\n"))
+        status, _, message = run("explain", "B3", "Q1")
+        self.assertEqual((status, message), (2, "explain: there is no rule Q1: see docs/rules.md\n"))
+
+    def test_words(self):
+        for word in [*hints.absent(), *BLOCK_KINDS, *hints.texts()["warning"]]:
+            self.assertEqual(call(main, word)[0], 0, word)
+        for hint in hints.hints():
+            for word in re.findall(r"MC_\w+|\b[A-Z_]{4,}\b", hint.shows):
+                self.assertIn("cure: ", call(main, word)[1], word)
 
 
 class Readers(unittest.TestCase):
@@ -298,6 +304,23 @@ class Hints(unittest.TestCase):
         page = (ROOT / "docs" / "rules.md").read_text(encoding="utf-8")
         rules = re.findall(r"^\| ([BCPSKTG]\d+) \|", page, re.MULTILINE)
         self.assertEqual(sorted(rules), sorted(hints.texts()["rule"]))
+
+    def test_the_blocks_that_are_not_there_are_those_of_the_page(self):
+        page = (ROOT / "docs" / "coverage.md").read_text(encoding="utf-8")
+        found = re.findall(r"^\| MC_(\w+) \| No \|", page[page.index("## Part 1: blocks"):], re.MULTILINE)
+        missing = set(found) - set(BLOCK_KINDS)
+        self.assertGreater(len(missing), 50)
+        self.assertEqual(missing - set(hints.absent()), set())
+        self.assertEqual(set(hints.absent()) & set(BLOCK_KINDS), set())
+
+    def test_the_warnings_are_those_of_the_page(self):
+        page = (ROOT / "docs" / "tools.md").read_text(encoding="utf-8")
+        table = page[page.index("| Warning | Comes where |"):].split("\n\n")[0]
+        self.assertEqual(sorted(re.findall(r"^\| `([\w-]+)` \|", table, re.MULTILINE)),
+                         sorted(hints.texts()["warning"]))
+
+    def test_each_kind_of_text_has_its_position(self):
+        self.assertEqual(set(hints.texts()["kind"]), set(hints.texts()["position"]))
 
     def test_every_hint_fits_a_rule(self):
         for hint in hints.hints():

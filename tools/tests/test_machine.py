@@ -59,10 +59,10 @@ class Links(unittest.TestCase):
                                   check=False)
             self.assertEqual((done.returncode, done.stdout), (0, "ran check a\n"))
 
-    def test_the_old_name_of_explain_finds_its_folder(self):
+    def test_a_tool_finds_its_folder(self):
         with tempfile.TemporaryDirectory() as folder:
-            link = pathlib.Path(folder) / "told"
-            link.symlink_to(TOOLS / "told")
+            link = pathlib.Path(folder) / "why"
+            link.symlink_to(TOOLS / "explain")
             self.assertEqual(run(link, "S2")[0], 0)
 
 

@@ -1,8 +1,12 @@
 """Mistakes that are made in the first days, and that `explain` leads to their cure:
 mistakes.toml."""
 
+import os
 import pathlib
+import re
+import shlex
 import subprocess
+import sys
 import tempfile
 import tomllib
 import unittest
@@ -38,8 +42,8 @@ def texts_of(mistake):
 
 def words_of(mistake, files):
     """The words for motion."""
-    if "run" in mistake:
-        return mistake["run"].split()
+    if "run" in mistake or "tool" in mistake:
+        return mistake.get("run", "").split()
     if "b.bench" in files:
         return ["bench", "b.bench"]
     return ["run", "m.toml", "p.prog"] if "p.prog" in files else ["st", "m.toml", "s.st"]
@@ -51,32 +55,53 @@ def made_of(mistake, folder):
     files = texts_of(mistake)
     for name, text in files.items():
         (folder / name).write_text(text, encoding="utf-8")
-    return subprocess.run([MOTION, *words_of(mistake, files)], cwd=folder, capture_output=True,
-                          check=False, timeout=100).stdout
+    words = words_of(mistake, files)
+    if not words:
+        return b""
+    return subprocess.run([MOTION, *words], cwd=folder, capture_output=True, check=False,
+                          timeout=100).stdout
 
 
-@unittest.skipUnless(MOTION.exists(), "the program isn't built")
+def is_without(mistake):
+    """Whether a mistake is shown without the program."""
+    return "tool" in mistake and "run" not in mistake and "{motion}" not in mistake["tool"]
+
+
 class Mistakes(unittest.TestCase):
 
     def test_each_leads_to_its_cure(self):
+        mistakes = [mistake for mistake in MISTAKES if MOTION.exists() or is_without(mistake)]
         with tempfile.TemporaryDirectory() as folder, ThreadPoolExecutor(4) as workers:
-            folders = [pathlib.Path(folder) / str(place) for place in range(len(MISTAKES))]
-            outputs = list(workers.map(made_of, MISTAKES, folders))
-            told_of = [self.told(*each) for each in zip(MISTAKES, folders, outputs)]
-        for mistake, told in zip(MISTAKES, told_of):
+            folders = [pathlib.Path(folder) / str(place) for place in range(len(mistakes))]
+            outputs = list(workers.map(made_of, mistakes, folders))
+            told_of = [self.told(*each) for each in zip(mistakes, folders, outputs)]
+        for mistake, (status, told) in zip(mistakes, told_of):
             with self.subTest(mistake=mistake["name"]):
+                self.assertEqual(status, mistake.get("status", 0), told)
                 for wanted in mistake["wants"]:
                     self.assertIn(wanted, told)
                 for unwanted in mistake.get("lacks", []):
                     self.assertNotIn(unwanted, told)
+                if "errors" in mistake:
+                    self.assertEqual(len(re.findall(r": error [A-Z]\d+:", told)), mistake["errors"])
 
     def told(self, mistake, folder, output):
-        """What explain says of a mistake."""
+        """How a tool ends for a mistake, and what it says; explain where none is named."""
         (folder / "output").write_bytes(output)
+        if "tool" in mistake:
+            return self.said(mistake, folder, output.decode("utf-8", "replace"))
         words = [folder / word for word in words_of(mistake, texts_of(mistake))[1:]]
         status, told, faults = call(main, *words, "--of", folder / "output")
         self.assertEqual((status, faults), (0, ""))
-        return told.replace(f"{folder}/", "")
+        return status, told.replace(f"{folder}/", "")
+
+    def said(self, mistake, folder, text):
+        """The same of the tool of a row, which is given what motion wrote."""
+        name, *words = shlex.split(mistake["tool"].replace("{motion}", str(MOTION)))
+        done = subprocess.run([sys.executable, TOOLS / name, *words], cwd=folder, input=text,
+                              capture_output=True, encoding="utf-8", check=False,
+                              env={**os.environ, **mistake.get("env", {})})
+        return done.returncode, done.stdout + done.stderr
 
     def test_there_are_enough(self):
         self.assertGreaterEqual(len(MISTAKES), 40)

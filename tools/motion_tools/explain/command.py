@@ -7,12 +7,13 @@ perhaps not meant, and a short report.
     motion check run.trace | tools/explain run.trace
     tools/explain run.trace --config my.toml
     tools/explain S2 104 status 9
+    tools/explain ELSIF MC_SetOverride
 
 Where a file was rejected it prints the file and the line with a mark under the word, what is wrong
 there, the rule in one sentence and the cure. Of a run it prints each error of a call or an axis
 with its reason in the machine's units, what was legal and perhaps not meant, at which wait a task
-without an end stood, and per move its time, peak velocity and acceleration. A rule, an ErrorID or
-`status N` in place of files is explained by itself.
+without an end stood, and per move its time, peak velocity and acceleration. A rule, an ErrorID,
+`status N`, or a word that a text may not have, in place of files is explained by itself.
 """
 
 import argparse
@@ -25,23 +26,26 @@ from pathlib import Path
 from typing import Optional
 
 from motion_tools import command
+from motion_tools.blocks import acts_on_group, keys_of
 from motion_tools.config import ConfigError
 from motion_tools.explain import hints
 from motion_tools.explain.findings import Finding, words_of
-from motion_tools.explain.refusals import checked, refusal
+from motion_tools.explain.refusals import checked, refusals
 from motion_tools.explain.runs import run_findings
-from motion_tools.explain.texts import traces_among
-from motion_tools.explain.verdicts import verdict_findings
-from motion_tools.trace import ReadFault, TraceError, lines_of
+from motion_tools.explain.texts import kind_of, traces_among
+from motion_tools.explain.verdicts import edge_findings, verdict_findings
+from motion_tools.trace import BLOCK_KINDS, ReadFault, TraceError, lines_of
 
 CODE = re.compile(r"[A-Z][0-9]{1,2}|[0-9]{1,3}")
+ERROR_ID = re.compile(r"(?i)(?:e|error|error_?id)([0-9]{1,3})")
+WORD = re.compile(r"[A-Za-z][\w-]*")
 
 
 def parser() -> argparse.ArgumentParser:
     words = command.parser_of("explain", __doc__)
     words.add_argument("files", nargs="*", metavar="FILE or CODE",
                        help="the files that motion was given: a bench, a configuration and tasks, "
-                       "a trace; or codes to explain, as B7, 104, status 9")
+                       "a trace; or codes and words to explain, as B7, E104, status 9, ELSIF")
     words.add_argument("--of", metavar="FILE",
                        help="what motion wrote; left out, the standard input, and where that is a "
                        "terminal or empty the trace among the files")
@@ -85,7 +89,7 @@ def explain(options: argparse.Namespace) -> int:
         return command.READ
     if options.config_to_check:
         return write(options, checked(options.config_to_check), "")
-    if options.files and all(map(is_code, options.files)):
+    if options.files and not options.of and all(map(is_word, options.files)):
         found = [each for code in codes(options.files) for each in code_findings(code)]
         return write(options, found, "")
     source, output = output_of(options)
@@ -108,18 +112,21 @@ def write(options: argparse.Namespace, findings: Iterable[Finding], text: str) -
 
 # Codes
 
-def is_code(word: str) -> bool:
-    """Whether a word is a code and no file."""
-    return bool(word == "status" or CODE.fullmatch(word)) and not Path(word).exists()
+def is_word(word: str) -> bool:
+    """Whether a word is a code or what may stand in a text, and no file."""
+    return bool(CODE.fullmatch(word) or WORD.fullmatch(word)) and not Path(word).exists()
 
 
 def codes(words: list[str]) -> list[str]:
-    """The codes of words, `status N` as one."""
-    return re.findall(r"status \d+|\S+", " ".join(words))
+    """The codes of words, `status N` and `error N` as one."""
+    return re.findall(r"status \d+|\S+", re.sub(r"(?i)\b(error|errorid) (?=\d)", r"\1",
+                                               " ".join(words)))
 
 
 def code_findings(code: str) -> list[Finding]:
-    """What a code means."""
+    """What a code means, or what is written in the place of a word. Raises LookupError."""
+    if found := ERROR_ID.fullmatch(code):
+        code = found[1]
     if code.startswith("status "):
         number = code.split()[1]
         if number not in hints.texts()["status"]:
@@ -133,11 +140,35 @@ def code_findings(code: str) -> list[Finding]:
         return [Finding("note", f"ErrorID {code}", reason, cure)
                 for reason, cure in (hints.texts()[name][code] for name in tables)]
     if code not in hints.texts()["rule"]:
-        raise LookupError(f"there is no rule {code}: see docs/rules.md")
+        return word_findings(code)
     says, cure = hints.rule(code)
     found = [Finding("note", code, says, cure)]
     return found + [Finding("note", code, f"as in {hint.shows}", hint.listed)
                     for hint in hints.hints() if code in hint.rules]
+
+
+def word_findings(word: str) -> list[Finding]:
+    """What is written in the place of a word: a block that isn't there, one that is, a mistake of
+    the index, a warning. Raises LookupError."""
+    bare = word.removeprefix("MC_")
+    if bare in hints.absent():
+        return [Finding("note", word, f"there is no {bare}", hints.absent()[bare])]
+    if bare in BLOCK_KINDS:
+        keys = " ".join(keys_of(bare)) or "no key"
+        on = "a group" if acts_on_group(bare) else "an axis"
+        return [Finding("note", word, f"{bare} acts on {on}, and takes {keys}",
+                        f"write {bare} without MC_ (docs/blocks.md)" if bare != word
+                        else "see docs/blocks.md")]
+    if word in hints.texts()["warning"]:
+        return [Finding("note", word, *hints.warning(word))]
+    found = {hint.listed: Finding("note", ", ".join(hint.rules), f"as in {hint.shows}", hint.listed)
+             for hint in hints.hints() if hint.names(word)}
+    if not found and CODE.fullmatch(word):
+        raise LookupError(f"there is no rule {word}: see docs/rules.md")
+    if not found:
+        raise LookupError(f"there is no file {word}, and no rule, ErrorID, block, warning or common "
+                          "mistake of that name: see the index of docs/rules.md")
+    return list(found.values())
 
 
 # What motion wrote
@@ -166,7 +197,7 @@ def explained(options: argparse.Namespace, output: Iterator[str],
     words = first.split()
     if words[:1] == ["refused"] and len(words) >= 4 and CODE.fullmatch(words[-1]):
         name = " ".join(words[1:-2])
-        return [refusal(options, name, int(words[-2]), words[-1])], ""
+        return refusals(options, name, int(words[-2]), words[-1]), ""
     if not first:
         return nothing_written(options), ""
     if first.startswith(("kind", "motion-bench")) or "," in first:
@@ -179,6 +210,9 @@ def nothing_written(options: argparse.Namespace) -> list[Finding]:
     for name in options.files:
         if not Path(name).exists():
             raise ReadFault(f"cannot read {name}: there is no such file")
+    if any(kind_of(name) == "switches" for name in options.files) and not options.status:
+        return [Finding("note", "", "motion wrote nothing: where its status is 0, no switch goes "
+                        "on or off"), *edge_findings(options.files)]
     if options.status is None:
         return [Finding("note", "", "motion wrote nothing: see its status",
                         "give it by --status N")]

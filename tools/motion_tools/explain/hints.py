@@ -11,6 +11,7 @@ from pathlib import Path
 from typing import NamedTuple, Optional
 
 from motion_tools.explain.faults import Fault
+from motion_tools.trace import BLOCK_KINDS
 
 FILE = Path(__file__).with_name("hints.toml")
 TITLES = {"config": "In a configuration", "program": "In a program", "st": "In Structured Text",
@@ -31,6 +32,13 @@ class Hint(NamedTuple):
     line: Optional[re.Pattern[str]]
     says: Optional[re.Pattern[str]]
 
+    def names(self, word: str) -> bool:
+        """Whether the hint is about this word: one of its examples has it, or its pattern does."""
+        shown = re.findall(r"[\w-]+", self.shows)
+        fits = self.word is not None and self.word.fullmatch(word) and not (
+            self.not_word and self.not_word.fullmatch(word))
+        return word in shown or bool(fits and not self.word.fullmatch("no_word_of_any_text"))
+
     def cure_of(self, text: str, fault: Fault, line: str) -> Optional[str]:
         """The cure, where the hint fits a fault of a text; None where it doesn't. {1} and {2} are
         the groups of `line`, of `word` where that has none."""
@@ -49,6 +57,7 @@ class Hint(NamedTuple):
         cure = self.cure
         for name, value in [("word", fault.word), ("lower", fault.word.lower()),
                             ("upper", fault.word.upper()),
+                            ("absent", absent().get(groups[0], "") if groups else ""),
                             *((str(place), group) for place, group in enumerate(groups, 1))]:
             cure = cure.replace("{" + name + "}", value)
         return cure
@@ -66,9 +75,18 @@ def hints() -> tuple[Hint, ...]:
     return tuple(hint_of(table) for table in texts()["hint"])   # type: ignore[arg-type]
 
 
+@cache
+def absent() -> dict[str, str]:
+    """The blocks of the standard that are not there, and what is written in the place of each."""
+    return {name: str(cure) for names, cure in texts()["absent"].items() for name in names.split()}
+
+
 def hint_of(table: dict[str, object]) -> Hint:
-    """The hint of a table."""
-    patterns = [re.compile(str(table[key])) if key in table else None
+    """The hint of a table; in a pattern {kinds} and {absent} are the names of the blocks that are
+    there, and of those that are not."""
+    names = {"{kinds}": "|".join(BLOCK_KINDS), "{absent}": "|".join(absent())}
+    patterns = [re.compile(re.sub(r"\{kinds\}|\{absent\}", lambda found: names[found[0]],
+                                  str(table[key]))) if key in table else None
                 for key in ("word", "not_word", "line", "says")]
     return Hint(str(table["text"]), tuple(table["rules"]), str(table["shows"]),    # type: ignore
                 str(table["cure"]), str(table.get("index", table["cure"])), *patterns)
@@ -107,6 +125,13 @@ def error(number: int, of_group: bool) -> tuple[str, str]:
             reason, cure = table[str(number)]
             return reason, cure
     return "an error that no table has", "see docs/errors.md"
+
+
+def state_cure(kind: str, state: str) -> str:
+    """What to do of a group in a state from which a kind of block doesn't lead; nothing where no
+    table has it."""
+    table = texts()["group_state"]
+    return str(table.get(f"{kind} {state}", table.get(state, "")))
 
 
 def warning(name: str) -> tuple[str, str]:

@@ -66,6 +66,8 @@ class AxisHistory:
     following: int = 0                                  # the greatest error, with its sign
     following_cycle: int = 0
     following_place: int = 0
+    jump: int = 0                   # the greatest change of the target's step, in whole increments
+    target_step: int = 0                                # of the last row, in increments
     last: Optional[Row] = None
     last_step: Step = (0, 0)
 
@@ -83,6 +85,10 @@ class AxisHistory:
                 if abs(before - place) > abs(self.following):
                     self.following, self.following_cycle = before - place, cycle
                     self.following_place = before
+        step_of_target = row.target - self.last.target if self.last and velocity is not None else 0
+        if velocity is not None:
+            self.jump = max(self.jump, abs(step_of_target - self.target_step) * self.axis.inc)
+        self.target_step = step_of_target
         self.last, self.last_step = row, step
 
     @property
@@ -128,6 +134,7 @@ class History:
         self.commands: list[Command] = []
         self.failures: list[Failure] = []
         self.ended: list[str] = []
+        self.ended_at: dict[str, int] = {}              # by task, after which cycle
         self.cycles = self.entries = 0
         self.rejected = 0
         self.rows: dict[str, Row] = {}
@@ -153,6 +160,7 @@ class History:
     def add_calls(self, calls: list[Call], ends: list[str]) -> None:
         """Adds the calls and the ends between two cycles."""
         self.ended += ends
+        self.ended_at.update(dict.fromkeys(ends, self.cycles))
         self.entries += len(calls) + len(ends)
         for call in calls:
             self.add_call(self.blocks[call.block], call)

@@ -9,7 +9,7 @@ from motion_tools.explain.faults import Fault
 from motion_tools.explain.finder import EVENTS, FORMS, QUANTITY, VERSIONS, Context, Finder, words_of
 from motion_tools.explain.line_forms import READERS
 
-__all__ = ["EVENTS", "QUANTITY", "Context", "faults_at", "words_of"]
+__all__ = ["EVENTS", "QUANTITY", "Context", "faults_at", "faults_below", "words_of"]
 
 
 def misplaced(context: Context, words: list[str]) -> str:
@@ -37,7 +37,7 @@ def misplaced(context: Context, words: list[str]) -> str:
 
 def take(context: Context, words: list[str]) -> None:
     """Takes into account what a line defines, as far as it is one."""
-    first, rest = words[0], words[1:]
+    first, rest = words[0].lower(), words[1:]
     if first == "axis" and rest:
         context.axes.append(rest[0])
     elif first == "group" and rest:
@@ -72,6 +72,36 @@ def faults_at(text: str, line: int, context: Context) -> list[Fault]:
         elif words:
             take(context, words)
     return []
+
+
+def faults_below(text: str, line: int, context: Context) -> list[Fault]:
+    """The first fault of each line below one with a fault, as well as this reader can go on."""
+    faults: list[Fault] = []
+    for number, content in enumerate(text.split("\n"), 1):
+        found = Finder(context, number, content)
+        words = [word.text for word in found.words]
+        if not words:
+            continue
+        if not context.version:
+            context.version = " ".join(words)
+            if words[0] not in FORMS[context.kind]:
+                continue
+        if number == line:
+            mend(context, words)
+        elif number > line:
+            faults_in(found, words)
+            faults += [fault for fault in found.faults if fault.says][:1]
+            mend(context, words)
+        take(context, words)
+    return faults
+
+
+def mend(context: Context, words: list[str]) -> None:
+    """Takes what a line lacks above it as given, so that it is missed once."""
+    if context.kind == "bench" and words[0] in EVENTS:
+        context.gone = True
+    if context.kind == "program" and words[0] != "task" and not context.tasks:
+        context.tasks.append("")
 
 
 def faults_in(found: Finder, words: list[str]) -> None:

@@ -4,6 +4,7 @@ hand."""
 from typing import Optional
 
 from motion_tools.blocks import acts_on_group
+from motion_tools.explain import hints
 from motion_tools.explain.history import Failure, History
 from motion_tools.trace import Call
 from motion_tools.units import Units, decimal
@@ -93,6 +94,13 @@ def jerk_text(history: History, failure: Failure, call: Call, units: Units) -> s
     if history.machine.maker != "run" or scale is None or not units.cycle_us:
         return str(call.jerk)
     return f"{decimal((call.jerk or 0) * scale.factor)} {scale.unit}/s³"
+
+
+def state_cure(failure: Failure) -> str:
+    """What to do where a group's state is none from which the block leads; nothing where a call
+    since the last cycle has changed that state."""
+    kind = failure.block.kind if failure.block else ""
+    return "" if failure.state in LEADS.get(kind, ()) else hints.state_cure(kind, failure.state)
 
 
 def other_reason(history: History, failure: Failure, call: Call, units: Units) -> str:

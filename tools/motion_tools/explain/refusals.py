@@ -8,27 +8,69 @@ from motion_tools.config import Config, ConfigError, config_of
 from motion_tools.explain import hints, lines, settings, st
 from motion_tools.explain.faults import Fault, chosen
 from motion_tools.explain.findings import Finding
-from motion_tools.explain.texts import kind_of
+from motion_tools.explain.texts import kind_by_text, kind_of
 from motion_tools.trace import Trace, TraceError, lines_of
 
 OF_CONFIG = ("S3", "P6")                # rules about names that the configuration has
+MOST = 7                                # further errors that are shown
 KIND_OF_RULE = {"B": "bench", "P": "program", "S": "st", "K": "switches", "C": "config",
                 "T": "trace", "G": "segment"}
 
 
-def refusal(options: argparse.Namespace, name: str, place: int, rule: str) -> Finding:
-    """A rejected file: its line, what is wrong there, the rule and its cure."""
+def refusals(options: argparse.Namespace, name: str, place: int, rule: str) -> list[Finding]:
+    """A rejected file: the line that `motion` named, what is wrong there, the rule and its cure; and
+    the faults that this reader finds below it."""
     file = file_of(options.files, name, rule)
     kind = KIND_OF_RULE[rule[0]]
-    says, _ = hints.rule(rule)
     text = Path(file).read_bytes().decode("utf-8", "surrogateescape").replace("\r\n", "\n")
-    fault = fault_of(options, kind, text, place, rule)
-    line = line_at(text, fault.line)
-    cure = hints.cure_of(kind, fault, line)
+    there = kind_by_text(file)
+    if there and there != kind and {there, kind} != {"trace", "segment"}:
+        return [misplaced(file, there, kind, rule)]
+    first = fault_of(options, kind, text, place, rule)
+    more = below(options, kind, text, place, first)
+    found = [finding_of(kind, file, text, fault) for fault in [first, *more[:MOST]]]
     if rule in OF_CONFIG and config_named(options) is None:
-        cure += "; give explain the configuration too, to see what is wrong here"
-    return Finding("error", rule, fault.says or says, cure, says if fault.says else "", file,
-                   fault.line, fault.column + 1, fault.length, printable(line))
+        found[0].cure += "; give explain the configuration too, to see what is wrong here"
+    if more:
+        found.append(Finding("note", "", "motion reports the first error alone; the ones below it "
+                             "are what explain finds by itself"
+                             + (f", and {len(more) - MOST} more" if len(more) > MOST else "")))
+    return found
+
+
+def finding_of(kind: str, file: str, text: str, fault: Fault) -> Finding:
+    """A fault of a text with its line, its rule and its cure."""
+    says, line = hints.rule(fault.rule)[0], line_at(text, fault.line)
+    return Finding("error", fault.rule, fault.says or says, hints.cure_of(kind, fault, line),
+                   says if fault.says else "", file, fault.line, fault.column + 1, fault.length,
+                   printable(line))
+
+
+def misplaced(file: str, there: str, wanted: str, rule: str) -> Finding:
+    """A file of another kind than the one that was read in its position."""
+    names = hints.texts()["kind"]
+    return Finding("error", rule, f"{file} is {names[there]}, and was read as {names[wanted]}",
+                   hints.texts()["position"][wanted], file=file)
+
+
+def below(options: argparse.Namespace, kind: str, text: str, place: int,
+          first: Fault) -> list[Fault]:
+    """The faults below the first one, one a line, where this reader goes on."""
+    axes, groups = names_of(options)
+    if kind == "config":
+        found = [fault for fault in settings.faults_of(text) if fault.line != first.line]
+    elif kind == "st":
+        found = [fault for fault in st.faults_of(text, axes, groups) if fault.line > first.line]
+    elif kind in ("program", "bench", "switches"):
+        axes = trace_axes(options) if kind == "switches" else axes if kind == "program" else []
+        context = lines.Context(kind, axes, groups if kind == "program" else {})
+        found = lines.faults_below(text, place, context)
+    else:
+        return []
+    known = config_named(options) is not None
+    lines_of_faults = {fault.line: fault for fault in reversed(found)
+                       if known or fault.rule not in OF_CONFIG}
+    return [lines_of_faults[line] for line in sorted(lines_of_faults)]
 
 
 def file_of(files: list[str], name: str, rule: str) -> str:
@@ -126,15 +168,5 @@ def trace_axes(options: argparse.Namespace) -> list[str]:
 def checked(name: str) -> list[Finding]:
     """What is wrong in a configuration, by every rule at every place: for its author."""
     text = Path(name).read_text(encoding="utf-8", errors="surrogateescape")
-    for place in range(40):
-        for rule in [f"C{number}" for number in range(1, 8)]:
-            try:
-                fault = settings.fault_at(text, place, rule)
-            except (KeyError, TypeError, ValueError, AttributeError):
-                fault = None
-            if fault:
-                line = line_at(text, fault.line)
-                return [Finding("error", rule, fault.says, hints.cure_of("config", fault, line),
-                                hints.rule(rule)[0], name, fault.line, fault.column + 1,
-                                fault.length, printable(line))]
-    return [Finding("note", "", f"{name}: nothing is wrong by rules C1 to C7")]
+    return [finding_of("config", name, text, fault) for fault in settings.faults_of(text)] or [
+        Finding("note", "", f"{name}: nothing is wrong by rules C1 to C7")]

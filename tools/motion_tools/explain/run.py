@@ -7,7 +7,7 @@ from motion_tools.blocks import acts_on_group
 from motion_tools.explain import hints
 from motion_tools.explain.findings import Finding
 from motion_tools.explain.history import Failure, History
-from motion_tools.explain.reasons import reason_of
+from motion_tools.explain.reasons import reason_of, state_cure
 from motion_tools.explain.scans import Scans
 from motion_tools.explain.walk import Walk
 from motion_tools.trace import Call
@@ -27,6 +27,7 @@ class Run:
     walk: Optional[Walk] = None         # of a program
     scans: Optional[Scans] = None       # of tasks in Structured Text
     name: str = "the trace"
+    config: str = ""                    # of the configuration, where one is given
 
     def when(self, cycle: int, inside: bool = False) -> str:
         """A time, and the cycle."""
@@ -66,6 +67,12 @@ class Run:
         return self.at(finding, self.tasks.line_at(cycle, block, call))
 
 
+def warning(run: Run, name: str, says: str, cycle: Optional[int] = None) -> Finding:
+    """A warning by its name."""
+    return Finding("warning", name, says, hints.warning(name)[1],
+                   when="" if cycle is None else run.when(cycle), cycle=cycle)
+
+
 def failures(run: Run) -> list[Finding]:
     """The errors of calls, axes and groups, in their order; that a command ended by an error of its
     axis is part of that error."""
@@ -80,6 +87,8 @@ def failure_of(run: Run, failure: Failure) -> Finding:
     of_group = acts_on_group(failure.block.kind) if failure.block else \
         failure.owner in run.history.members
     reason, cure = hints.error(failure.number, of_group)
+    if failure.number == 16:
+        cure = state_cure(failure) or cure
     exact = reason_of(run.history, failure, run.units)
     if failure.block:
         who = run.who(failure.block.name)

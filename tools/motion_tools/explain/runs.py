@@ -28,7 +28,7 @@ def run_findings(options: argparse.Namespace, output: Iterable[str],
     scans = Scans(text, *names_of(options)) if kind == "st" else None
     history = History(Trace(output), walk or scans)
     run = Run(history, units_of(options, history), tasks, text, walk, scans,
-                     source if source != "-" else "the run")
+              source if source != "-" else "the run", options.config or "")
     ending = bench_end(run) if history.machine.maker == "bench" and kind == "bench" else \
         endings.endings(run) if history.machine.maker == "run" else []
     if history.fault:

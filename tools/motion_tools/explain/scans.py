@@ -41,6 +41,9 @@ class Scanned:
     calls: dict[str, int] = field(default_factory=dict)             # lines of the last calls
     edges: dict[str, int] = field(default_factory=dict)             # and of the last ones on
     made: Made = field(default_factory=dict)
+    wraps: dict[int, int] = field(default_factory=dict)     # lines whose numbers did, and when
+    cycle: int = 0
+    line: int = 0
     count: int = 0
     is_lost: bool = False
     steps: Iterator[None] = iter(())
@@ -73,9 +76,12 @@ class Scanned:
             self.count += 1
             if self.count > MOST_STATEMENTS:
                 raise Lost
+            self.line = statement.line
             if isinstance(statement, Assign):
                 self.variables[statement.name] = wrapped(self.value(statement.value))
             elif isinstance(statement, CallOf):
+                for each in statement.sums:
+                    self.value(each)
                 self.waits_for = statement
                 yield
             elif isinstance(statement, If):
@@ -104,12 +110,21 @@ class Scanned:
             return int(LETTERS[tree.name] in self.replies.get(tree.block, ""))
         if isinstance(tree, Sign):
             operand = self.value(tree.operand)
-            return wrapped(-operand) if tree.sign == "-" else int(not operand)
+            return self.number(-operand) if tree.sign == "-" else int(not operand)
         assert isinstance(tree, Join)
-        return wrapped(int(OPERATORS[tree.sign](self.value(tree.one), self.value(tree.other))))
+        return self.number(int(OPERATORS[tree.sign](self.value(tree.one),
+                                                    self.value(tree.other))))
+
+    def number(self, value: int) -> int:
+        """A result as a DINT has it; where it wraps its line is kept."""
+        found = wrapped(value)
+        if found != value:
+            self.wraps.setdefault(self.line, self.cycle)
+        return found
 
     def take(self, cycle: int, call: Call) -> None:
         """Takes the reply to the call that the scan waits for."""
+        self.cycle = cycle
         if self.is_lost:
             return
         if self.waits_for is None or self.waits_for.block != call.block:
@@ -125,8 +140,21 @@ class Scanned:
 
     def next_scan(self) -> None:
         """Begins the next scan, after a cycle."""
+        self.cycle += 1
         if not self.is_lost and self.waits_for is None:
             self.go_on()
+
+
+def calls_in(statements: Statements) -> Iterator[CallOf]:
+    """The calls among statements, also those in branches."""
+    for each in statements:
+        if isinstance(each, CallOf):
+            yield each
+        elif isinstance(each, If):
+            yield from calls_in([*each.then, *each.other])
+        elif isinstance(each, Case):
+            yield from calls_in([one for _, _, branch in each.branches for one in branch])
+            yield from calls_in(each.other)
 
 
 def wrapped(value: int) -> int:
@@ -165,6 +193,17 @@ class Scans:
     def declared(self, block: str) -> int:
         """The line in which a block is declared."""
         return self.owner[block].task.lines.get(block, 0) if block in self.owner else 0
+
+    def positions_left_out(self, block: str, line: int) -> tuple[str, ...]:
+        """The keys of positions that the calls of a block in a line leave out."""
+        task = self.owner.get(block)
+        found = [each.missing for each in calls_in(task.task.statements)
+                 if (each.block, each.line) == (block, line)] if task else []
+        return found[0] if found else ()
+
+    def declared_variable(self, name: str, variable: str) -> int:
+        """The line in which a task declares a variable; 0 where it isn't known."""
+        return self.tasks[name].task.lines.get(variable, 0) if name in self.tasks else 0
 
     def shown(self, name: str) -> str:
         """The variables of a task, as they stand at the end."""

@@ -61,6 +61,29 @@ def fault_at(text: str, place: int, rule: str) -> Optional[Fault]:
     return None
 
 
+def faults_of(text: str) -> list[Fault]:
+    """What breaks a rule at each place, by the first rule that is broken there."""
+    try:
+        data = tomllib.loads(text.removeprefix("\ufeff"))
+    except (tomllib.TOMLDecodeError, RecursionError):
+        fault = fault_at(text, 0, "C1")
+        return [fault] if fault else []
+    faults: list[Fault] = []
+    for place in range(len(items_of(data)) + 1):
+        for rule in [f"C{number}" for number in range(2, 8)]:
+            if rule == "C5" and any("cycle_us" in fault.says for fault in faults):
+                break                       # the ranges of rates depend on it
+            try:
+                found = [placed(text, rule, *each)
+                         for each in broken(data, place, rule, units_in(text))]
+            except (KeyError, TypeError, ValueError, AttributeError, ZeroDivisionError):
+                break
+            if found:
+                faults += found
+                break
+    return faults
+
+
 def syntax_fault(text: str, says: str) -> Fault:
     """Where a text ceases to be TOML."""
     found = re.search(r"\s*\(at line (\d+), column (\d+)\)", says)
@@ -244,7 +267,7 @@ def range_faults(item: dict[str, Any], cycle_us: int, unit: str) -> Iterator[tup
             yield "increment", (f"{key} is {number[key] // increment:,} increments, which is no "
                                 "number of 32 bits; take a greater increment")
     start = number["start"]
-    if not lo <= start <= hi:
+    if lo < hi and not lo <= start <= hi:
         yield "start", (f"start is {decimal(start)}, and has to be from lo to hi, {decimal(lo)} to "
                         f"{decimal(hi)}")
     elif (start / increment).denominator != 1:
@@ -284,9 +307,9 @@ def drive_faults(item: dict[str, Any]) -> Iterator[tuple[str, str]]:
 
 def count_faults(item: dict[str, Any], kind: str) -> Iterator[tuple[str, str]]:
     """Too few or too many axes of a group, or faults of a drive."""
-    if kind == "group":
+    if kind == "group" and not 2 <= len(item["axes"]) <= 6:
         yield "axes", f"the group has {len(item['axes'])} axes, and has 2 to 6"
-    else:
+    if kind == "axis" and len(item.get("faults", [])) > 1000:
         yield "faults", f"the drive has {len(item.get('faults', []))} faults, and has 1,000 at most"
 
 

@@ -4,17 +4,19 @@ The program reports the first line that breaks a rule, and the rule. This reader
 that line, and what was wanted in its position. Where the two differ the program is right.
 """
 
+import re
 from collections.abc import Callable
 from typing import NoReturn, Optional, TypeVar, Union
 
 from motion_tools.blocks import FLAGS, MODES, acts_on_group, keys_of
 from motion_tools.explain.faults import Fault
-from motion_tools.explain.st_tokens import Stop, Token, Tokens
+from motion_tools.explain.st_tokens import Stop, Token, Tokens, Unfit
 from motion_tools.explain.st_tree import (Assign, CallOf, Case, Flag, If, Join, Number, Sign,
                                           Statements, Task, Tree, Truth, Typed, Variable)
 from motion_tools.trace import BLOCK_KINDS
 
 ORDER = ("=", "<>", "<", "<=", ">", ">=")
+QUALIFIERS = ("CONSTANT", "RETAIN", "NON_RETAIN", "PERSISTENT")     # of a VAR, which has none here
 MOST = 2147483647
 Read = TypeVar("Read")
 
@@ -26,17 +28,30 @@ def tasks_of(text: str, axes: list[str], groups: dict[str, list[str]]) -> list[T
         reader.file()
     except Stop:
         return []
-    return reader.tasks
+    return reader.tasks if reader.is_whole else []
+
+
+def declared_in(text: str) -> dict[str, set[str]]:
+    """The names that each task of a text declares, also below a fault."""
+    found: dict[str, set[str]] = {}
+    bare = re.sub(r"\(\*.*?\*\)", " ", text, flags=re.DOTALL)
+    for task in re.finditer(r"\bPROGRAM\s+(\w+)\s+VAR\b(.*?)\bEND_VAR\b", bare, re.DOTALL):
+        found.setdefault(task[1], set()).update(re.findall(r"(\w+)\s*:(?!=)", task[2]))
+    return found
 
 
 def faults_of(text: str, axes: list[str], groups: dict[str, list[str]]) -> list[Fault]:
-    """What breaks a rule, in the order of the text, up to the first break of S1 or S2."""
+    """What breaks a rule, in the order of the text: up to the first break of S1 or S2 as `motion`
+    finds it, and of statements and declarations below one as well as this reader can go on."""
     reader = Reader(text, axes, groups)
     try:
         reader.file()
     except Stop:
         pass
-    return sorted(reader.faults, key=lambda fault: (fault.line, fault.rule))
+    stops = [place for place, fault in enumerate(reader.faults) if fault.rule in ("S1", "S2")]
+    found = reader.faults[:stops[0] + 1] if stops else reader.faults
+    below = [fault for fault in reader.faults[len(found):] if fault.line > found[-1].line]
+    return sorted([*found, *below], key=lambda fault: (fault.line, fault.rule))
 
 
 class Reader(Tokens):
@@ -46,6 +61,7 @@ class Reader(Tokens):
         super().__init__(text)
         self.axes, self.groups = axes, groups
         self.tasks: list[Task] = []
+        self.declared = declared_in(text)
         self.depth = self.statements = 0
 
     # The grammar
@@ -56,7 +72,7 @@ class Reader(Tokens):
         self.task()
         while self.here.kind != "end":
             self.task()
-        if not any(task.blocks for task in self.tasks):
+        if self.is_whole and not any(task.blocks for task in self.tasks):
             self.blame("S6", self.here, "the text has no block")
 
     def task(self) -> None:
@@ -69,7 +85,13 @@ class Reader(Tokens):
         self.tasks.append(Task(name.text))
         self.take("VAR")
         while not self.is_at("END_VAR"):
-            self.declaration()
+            name = self.here
+            try:
+                self.declaration()
+            except Unfit:
+                if name is self.here:
+                    raise
+                self.pass_over(name)
         self.advance()
         self.tasks[-1].statements = self.statements_to("END_PROGRAM")
         self.advance()
@@ -77,6 +99,8 @@ class Reader(Tokens):
     def declaration(self) -> None:
         """decl = name : BOOL [:= value] ; | name : DINT [:= number] ; | name : KIND ( object ) ;"""
         task, name = self.tasks[-1], self.take_kind("word", "a declaration, or END_VAR,")
+        if name.text in QUALIFIERS and not self.is_at(":"):
+            self.unexpected(":", f": {name.text} is taken for the name of a variable")
         self.take(":")
         kind = self.here
         if self.is_at("BOOL", "DINT"):
@@ -160,6 +184,14 @@ class Reader(Tokens):
         if self.is_at("CASE"):
             return self.nested(self.case)
         name = self.take_kind("word", f"a statement or {ends}")
+        try:
+            return self.simple(name)
+        except Unfit:
+            self.pass_over(name)
+            return Assign(name.line, name.text, Number(0))
+
+    def simple(self, name: Token) -> Union[Assign, CallOf]:
+        """assignment ; | call ;"""
         if self.is_at("("):
             made: Union[Assign, CallOf] = self.call(name)
         elif self.is_at(":="):
@@ -174,8 +206,11 @@ class Reader(Tokens):
         task = self.tasks[-1]
         if name.line != self.here.line or name.text in task.variables or name.text in task.blocks:
             self.unexpected(":= or (")
-        self.fail("S2", name.line, name.column, len(name.text), f"{name.text} begins no statement",
-                  name.text)
+        self.goes_on = False
+        if self.is_whole or not re.fullmatch(r"(?i)end_\w+|until|elsif", name.text):
+            self.faults.append(Fault("S2", name.line, name.column, len(name.text),
+                                     f"{name.text} begins no statement", name.text))
+        raise Unfit
 
     def nested(self, read: Callable[[], Read]) -> Read:
         """Reads what may stand in itself, up to 32 deep."""
@@ -192,11 +227,13 @@ class Reader(Tokens):
         begin = self.advance()
         condition = self.expression("BOOL", begin, "the condition of an IF")
         self.take("THEN")
+        self.opened.append(begin)
         then, other = self.statements_to("ELSE", "END_IF"), []
         if self.is_at("ELSE"):
             self.advance()
             other = self.statements_to("END_IF")
         self.take("END_IF")
+        self.opened.pop()
         self.take(";")
         return If(begin.line, condition, then, other)
 
@@ -205,6 +242,7 @@ class Reader(Tokens):
         begin = self.advance()
         value = self.expression("DINT", begin, "the value of a CASE")
         self.take("OF")
+        self.opened.append(begin)
         branches, other = [], []
         while self.is_branch():
             line, number = self.here.line, self.signed()
@@ -214,6 +252,7 @@ class Reader(Tokens):
             self.advance()
             other = self.statements_to("END_CASE")
         self.take("END_CASE", "the number of a branch, ELSE or END_CASE")
+        self.opened.pop()
         self.take(";")
         return Case(begin.line, value, branches, other)
 
@@ -222,7 +261,7 @@ class Reader(Tokens):
         self.advance()
         kind = self.tasks[-1].variables.get(name.text)
         if kind is None:
-            self.blame("S3", name, f"there is no variable {name.text} in this task")
+            self.unknown("variable", name)
         return Assign(name.line, name.text,
                       self.expression(kind, name, f"the value of {name.text}"))
 
@@ -230,20 +269,38 @@ class Reader(Tokens):
         """name ( execute := expr {, key := value} )"""
         block = self.tasks[-1].blocks.get(name.text)
         if block is None:
-            others = [task.name for task in self.tasks[:-1] if name.text in task.blocks]
-            says = (f"the block {name.text} is of the task {others[0]}" if others
-                    else f"there is no block {name.text} in this task")
-            self.blame("S3", name, says)
+            self.unknown("block", name)
         self.advance()
         self.take("execute")
         self.take(":=")
         execute = self.expression("BOOL", name, "the value of execute")
-        allowed = self.allowed_keys(block)
+        allowed, given, sums = self.allowed_keys(block), set(), []
         while self.is_at(","):
             self.advance()
-            self.key(name, block, allowed)
+            given.add(self.here.text)
+            tree = self.key(name, block, allowed)
+            sums += [tree] if isinstance(tree, (Join, Sign)) else []
         self.take(")", ", or )")
-        return CallOf(name.line, name.text, execute)
+        missing = () if block is None else tuple(
+            key for key in self.allowed_keys(block) if key.startswith("pos") and key not in given)
+        return CallOf(name.line, name.text, execute, missing, tuple(sums))
+
+    def unknown(self, what: str, name: Token) -> None:
+        """A name is no variable, or no block, of this task: whose it is, where it is somebody's."""
+        task = self.tasks[-1]
+        owners = [each for each, names in self.declared.items() if name.text in names]
+        others = {**{axis: "an axis" for axis in self.axes},
+                  **{group: "a group" for group in self.groups},
+                  **{block: "a block" for block in task.blocks},
+                  **{variable: "a variable" for variable in task.variables}}
+        says = f"there is no {what} {name.text} in this task"
+        if name.text in self.passed:
+            return
+        if name.text in others:
+            says = f"{name.text} is {others[name.text]}, and no {what}"
+        elif owners and owners[0] != task.name:
+            says += f"; {name.text} is of the task {owners[0]}"
+        self.blame("S3", name, says)
 
     def allowed_keys(self, block: Optional[tuple[str, str]]) -> list[str]:
         """The keys of a block, in their order, of which each may still come."""
@@ -255,8 +312,9 @@ class Reader(Tokens):
                 for each in ([f"pos{place + 1}" for place in range(count)]
                              if key == "pos" and acts_on_group(kind) else [key])]
 
-    def key(self, name: Token, block: Optional[tuple[str, str]], allowed: list[str]) -> None:
-        """key := value"""
+    def key(self, name: Token, block: Optional[tuple[str, str]],
+            allowed: list[str]) -> Optional[Tree]:
+        """key := value, of which a number has its tree"""
         key = self.take_kind("word", "a key, as pos, vel or acc,")
         self.take(":=")
         if key.text not in allowed:
@@ -268,12 +326,12 @@ class Reader(Tokens):
                 self.take_kind("word", "a name")
             else:
                 self.expression(None, name, "")
-            return
+            return None
         del allowed[:allowed.index(key.text) + 1]
         if key.text in ("mode", "master"):
             self.named(key)
-        else:
-            self.expression("DINT", name, f"the value of {key.text}")
+            return None
+        return self.expression("DINT", name, f"the value of {key.text}")
 
     def named(self, key: Token) -> None:
         """The value of `mode` or `master`."""
@@ -377,14 +435,16 @@ class Reader(Tokens):
         task, name = self.tasks[-1], self.take_kind("word", "a value")
         if not self.is_at("."):
             if name.text not in task.variables:
-                self.blame("S3", name, f"there is no variable {name.text} in this task")
+                self.unknown("variable", name)
             return task.variables.get(name.text), Variable(name.text)
         self.advance()
         if not self.is_at(*FLAGS):
-            self.unexpected("busy, active, done, aborted, error or reached")
+            what = "an axis" if name.text in self.axes else "a group"
+            self.unexpected("busy, active, done, aborted, error or reached",
+                            f"; {name.text} is {what}" * (name.text in [*self.axes, *self.groups]))
         flag = self.advance().text
         if name.text not in task.blocks:
-            self.blame("S3", name, f"there is no block {name.text} in this task")
+            self.unknown("block", name)
         return "BOOL", Flag(name.text, flag)
 
     def number(self) -> int:

@@ -13,6 +13,9 @@ WORDS = frozenset("PROGRAM VAR END_VAR END_PROGRAM BOOL DINT TRUE FALSE IF THEN 
 TOKEN = re.compile(r"(?P<blank>[ \t\r]+)|(?P<comment>\(\*)|(?P<word>[A-Za-z][A-Za-z0-9_]*)"
                    r"|(?P<number>[0-9]+)|(?P<sign>:=|<>|<=|>=|[:;,.()=<>+*-])")
 
+ENDS = ("END_IF", "END_CASE", "END_PROGRAM", "ELSE", "PROGRAM")
+
+
 class Token(NamedTuple):
     """A word, a number or a sign of a text, or its end."""
     kind: str           # word, number, sign or end
@@ -25,12 +28,27 @@ class Stop(Exception):
     """Reading ends at a token that breaks S1 or S2."""
 
 
+class Unfit(Stop):
+    """A token doesn't fit the grammar. `motion` ends there; a statement or a declaration later this
+    reader may go on."""
+
+
+def open_words(opened: list[Token]) -> str:
+    """The IF and CASE without an end in words, the last one first."""
+    shown = [f"the {each.text} of line {each.line}" for each in reversed(opened[-4:])]
+    return ", ".join(shown) + (", .." if len(opened) > 4 else "")
+
+
 class Tokens:
     """Goes over the tokens of a text; `here` is the one that stands next, `before` the one
     taken."""
 
     def __init__(self, text: str):
         self.faults: list[Fault] = []
+        self.opened: list[Token] = []           # the IF and CASE that have no end so far
+        self.goes_on = False                    # of the last fault: a ; was missing, and no more
+        self.is_whole = True                    # no token was passed over
+        self.passed: set[str] = set()           # words that were
         self.tokens = self.lexed(text)
         self.here = self.before = Token("end", "", 0, 0)
 
@@ -104,13 +122,22 @@ class Tokens:
 
     # Faults
 
+    def pass_over(self, name: Token) -> None:
+        """Goes on after a fault at the next ; or at an end, for the faults that stand below it."""
+        self.is_whole = False
+        self.passed.add(name.text)
+        while not (self.goes_on or self.here.kind == "end" or self.is_at(*ENDS, "END_VAR")):
+            self.passed.add(self.here.text)
+            if self.advance().text == ";":
+                return
+
     def fail(self, rule: str, line: int, column: int, length: int, says: str,
              word: str) -> NoReturn:
         """Reading ends here."""
         self.faults.append(Fault(rule, line, column, length, says, word))
         raise Stop
 
-    def unexpected(self, wanted: str) -> NoReturn:
+    def unexpected(self, wanted: str, more: str = "") -> NoReturn:
         """The token that stands next doesn't fit the grammar."""
         here = self.here
         if wanted == ";":
@@ -118,9 +145,13 @@ class Tokens:
             if self.before.line != here.line:
                 says += f", after {self.before.text} in line {self.before.line}"
         else:
-            says = f"{here.text} stands where {wanted} is expected"
-        self.fail("S2", here.line, here.column, len(here.text) if here.kind != "end" else 1, says,
-                  here.text)
+            says = f"{here.text} stands where {wanted} is expected{more}"
+            if self.opened and (here.kind in ("end", "number") or here.text in ENDS):
+                says += f"; open are {open_words(self.opened)}"
+        self.goes_on = wanted == ";" and (here.text in ENDS or self.before.line != here.line)
+        length = len(here.text) if here.kind != "end" else 1
+        self.faults.append(Fault("S2", here.line, here.column, length, says, here.text))
+        raise Unfit
 
     def blame(self, rule: str, token: Token, says: str, line: int = 0) -> None:
         """A rule is broken at a token; of a type it is reported at its statement's line."""

@@ -44,6 +44,8 @@ class CallOf(NamedTuple):
     line: int
     block: str
     execute: "Tree"
+    missing: tuple[str, ...] = ()       # the keys of positions that are left out
+    sums: "tuple[Tree, ...]" = ()       # its inputs that are computed
 
 
 class If(NamedTuple):

@@ -1,10 +1,27 @@
 """What `motion` writes beside traces: verdicts of check, statuses in words, reports and edges."""
 
+from pathlib import Path
+
 from motion_tools.explain import hints
 from motion_tools.explain.findings import Finding
-from motion_tools.trace import FORMS, FORMS_OF_VERSION
+from motion_tools.explain.switch_units import small_positions
+from motion_tools.explain.texts import kind_of
+from motion_tools.trace import FORMS, FORMS_OF_VERSION, Trace, lines_of
+from motion_tools.units import Units
 
 STATUS_OF = {"usage:": 2, "cannot": 4, "too": 5, "thread": 7}
+FORMS_FOR = (                   # kinds of files, and the requests that take them
+    ("bench", "motion bench {bench}", "motion standby {bench} CUT"),
+    ("config", "motion run {config} PROGRAM", "motion st {config} FILE"),
+    ("program", "motion run CONFIG {program}"),
+    ("st", "motion st CONFIG {st}"),
+    ("config program", "motion run {config} {program}"),
+    ("config st", "motion st {config} {st}"),
+    ("trace", "motion check {trace}", "motion migrate {trace}", "motion switches {trace} FILE",
+     "motion scope {trace} WORKERS"),
+    ("segment", "motion check {segment}"),
+    ("switches", "motion switches TRACE {switches}"),
+    ("trace switches", "motion switches {trace} {switches}"))
 
 
 def verdict_findings(files: list[str], output: list[str]) -> tuple[list[Finding], str]:
@@ -23,11 +40,31 @@ def verdict_findings(files: list[str], output: list[str]) -> tuple[list[Finding]
         if number == 2:
             found.says = f"{means}; the forms are " + ", ".join(
                 f"motion {name} {form}" for name, (form, _) in hints.commands().items())
+            if forms := forms_for(files):
+                found.cure = f"with {' and '.join(files)}: {', '.join(forms)}; {cure}"
         return [found], ""
     if first in ("gen", "axis", "block") or len(words) == 3 and words[2] in ("on", "off"):
-        return [Finding("note", "", "the command did all that was asked")], "".join(output)
+        return [Finding("note", "", "the command did all that was asked"),
+                *edge_findings(files)], "".join(output)
     return [Finding("note", "", f"this is no output of motion: {output[0].strip()[:60]}",
                     "give what motion run, st, bench or check wrote")], ""
+
+
+def edge_findings(files: list[str]) -> list[Finding]:
+    """What is to be said of the switch file among some files, where a trace is there too."""
+    names = {kind_of(name): name for name in files}
+    if not {"trace", "switches"} <= set(names):
+        return []
+    machine = Trace(lines_of(names["trace"], None)).machine
+    text = Path(names["switches"]).read_text(encoding="utf-8", errors="replace")
+    return list(small_positions(machine, names["switches"], text, Units()))
+
+
+def forms_for(files: list[str]) -> list[str]:
+    """The requests that go with some files, by their kinds."""
+    names = {kind_of(name): name for name in files}
+    return [form.format(**names) for kinds, *forms in FORMS_FOR if set(kinds.split()) == set(names)
+            for form in forms]
 
 
 def illegal(files: list[str], output: list[str]) -> Finding:

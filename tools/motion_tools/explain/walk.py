@@ -149,6 +149,14 @@ class Walk:
         """The line whose call of a block was made after a cycle."""
         return line_in(self.owner[block].made, cycle, block, call) if block in self.owner else 0
 
+    def positions_left_out(self, block: str, line: int) -> tuple[str, ...]:
+        """Whether the call of a block in a line leaves its positions out."""
+        task = self.owner.get(block)
+        made = [each for each in task.instructions if each.line == line] if task else []
+        is_call = made and made[0].verb == "call" and made[0].words[2:3] == ["on"]
+        return ("pos",) if is_call and not any(word.startswith("pos=")
+                                               for word in made[0].words) else ()
+
     def declared(self, block: str) -> int:
         """The line in which a block is declared."""
         return self.owner[block].blocks[block][0] if block in self.owner else 0

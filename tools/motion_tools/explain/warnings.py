@@ -1,13 +1,12 @@
 """Warnings: what is legal in a run, and was perhaps not meant."""
 
 from collections.abc import Iterator
-from typing import Optional
 
-from motion_tools.blocks import MOVES
-from motion_tools.explain import hints
+from motion_tools.blocks import ENDLESS, MOVES
+from motion_tools.explain import hints, machines, values
 from motion_tools.explain.findings import Finding
 from motion_tools.explain.history import Command
-from motion_tools.explain.run import Run
+from motion_tools.explain.run import Run, warning
 from motion_tools.explain.walk import mode_is_given
 
 FOLLOWERS = ("GearIn", "CamIn")
@@ -20,14 +19,9 @@ STILL = 10_000          # an axis that goes slower than vmax by this factor stan
 def warnings(run: Run) -> list[Finding]:
     """What is legal, and was perhaps not meant."""
     found = [*edges(run), *ignored(run), *aborted(run), *moving(run), *following(run), *early(run),
-             *tiny(run), *restarted(run), *geared(run), *uncalled(run)]
+             *restarted(run), *geared(run), *uncalled(run), *shared(run), *at_once(run),
+             *values.warnings(run), *machines.warnings(run)]
     return sorted(found, key=lambda finding: (finding.cycle is None, finding.cycle or 0))
-
-
-def warning(run: Run, name: str, says: str, cycle: Optional[int] = None) -> Finding:
-    """A warning by its name."""
-    return Finding("warning", name, says, hints.warning(name)[1],
-                   when="" if cycle is None else run.when(cycle), cycle=cycle)
 
 
 def edges(run: Run) -> Iterator[Finding]:
@@ -174,28 +168,6 @@ def early(run: Run) -> Iterator[Finding]:
                               f"{run.units.text(name, place)}", command.ended)
 
 
-def tiny(run: Run) -> Iterator[Finding]:
-    """Moves that are very short."""
-    for command in run.history.commands:
-        positions = command.call.positions
-        if command.block.kind not in MOVES or not positions or command.result.startswith("Error"):
-            continue
-        ways = {}
-        for name, position in zip(command.start, positions):
-            begin = 0 if command.block.kind == "MoveRelative" else command.start[name]
-            ways[name] = abs(position - begin)
-        if any(ways.values()) and all(way * THOUSANDTH < run.history.axes[name].reach
-                                      for name, way in ways.items()):
-            shown = ", ".join(f"{name} {run.units.text(name, way)}" for name, way in ways.items())
-            says = f"{run.who(command.block.name)} moves by {shown} alone"
-            found = warning(run, "tiny-move", says, command.begun)
-            if run.is_st:
-                unit = run.units.of_axis(next(iter(ways)))["position"][1]
-                found.cure = (f"pos is in thousandths of the user unit: pos := 200 is 0.2 {unit}, "
-                              f"and 200 {unit} are pos := 200000")
-            yield run.at_call(found, command.block.name, command.begun, command.call)
-
-
 def restarted(run: Run) -> Iterator[Finding]:
     """Blocks that start again and again, a few cycles after the start before."""
     starts: dict[str, list[Command]] = {}
@@ -235,3 +207,46 @@ def uncalled(run: Run) -> Iterator[Finding]:
             found = warning(run, "never-called", f"{run.who(name)} of the task {block.block.task} "
                             "was never called")
             yield run.at(found, run.tasks.declared(name) if run.tasks else 0)
+
+
+def shared(run: Run) -> Iterator[Finding]:
+    """Axes that two tasks move, where the later move doesn't wait for the earlier one."""
+    if run.history.machine.maker != "run":
+        return
+    last: dict[str, Command] = {}
+    seen: set[str] = set()
+    for command in run.history.commands:
+        if command.block.kind not in (*MOVES, *ENDLESS, "Home"):
+            continue
+        for name in command.start:
+            before = last.get(name)
+            last[name] = command
+            if before is None or before.block.task == command.block.task or name in seen:
+                continue
+            if command.call.mode not in (None, "aborting"):
+                continue
+            seen.add(name)
+            by = before.aborted_by
+            ends = ", which it aborted" if by and by.block == command.block.name else ""
+            found = warning(run, "two-tasks", f"two tasks move {name}: {run.who(command.block.name)} "
+                            f"of the task {command.block.task} after {run.who(before.block.name)} of "
+                            f"the task {before.block.task}{ends}", command.begun)
+            yield run.at_call(found, command.block.name, command.begun, command.call)
+
+
+def at_once(run: Run) -> Iterator[Finding]:
+    """Tasks of a configuration that ended before the first cycle, though they ask for motion."""
+    history = run.history
+    failed = {failure.block.task for failure in history.failures if failure.block}
+    asked = {command.block.task for command in history.commands}
+    for task, cycle in history.ended_at.items():
+        if history.machine.maker != "run" or cycle or task in failed:
+            continue
+        if history.cycles and task not in asked:
+            continue
+        says = (f"the task {task} ended in its first scan, before any cycle" if run.is_st else
+                f"the task {task} came to its end before any cycle")
+        found = warning(run, "ended-at-once", says, 0)
+        if not run.is_st:
+            found.cure = "let the task wait, as wait M done, before its lines end"
+        yield run.at(found, run.scans.declared_variable(task, "finished") if run.scans else 0)

@@ -17,7 +17,7 @@ import sys
 from pathlib import Path
 
 from motion_tools import command
-from motion_tools.plot import html, svg
+from motion_tools.plot import files, html, svg
 from motion_tools.plot.edges import EdgeError, read_edges
 from motion_tools.plot.reader import Trace, read_trace
 from motion_tools.plot.sheet import Sheet
@@ -31,8 +31,12 @@ def parser() -> argparse.ArgumentParser:
     words = command.parser_of("trace_plot", __doc__, command.STATUSES)
     words.add_argument("trace", help="a trace of version 1 or 2, or a table of setpoints, as "
                                       "c/otg_move.c prints it; - for the standard input")
-    words.add_argument("-o", "--output", help="the file to write; left out, the standard output")
-    words.add_argument("--html", action="store_true", help="a page in place of an SVG")
+    words.add_argument("-o", "--output",
+                        help="the file to write: a page where its name ends with .html, a PNG or a "
+                             "PDF where it ends so and rsvg-convert, inkscape or chromium is there, "
+                             "else an SVG; left out, the standard output")
+    words.add_argument("--html", action="store_true",
+                        help="a page in place of an SVG, whatever the name of the file")
     words.add_argument("--dark", action="store_true",
                         help="dark colours for the SVG; the page follows the reader's settings")
     words.add_argument("--outputs", action="store_true",
@@ -73,6 +77,9 @@ def check_words(parser: argparse.ArgumentParser, given: argparse.Namespace) -> N
         parser.error("--columns is from 256 to 1000000")
     if given.output is None and sys.stdout.isatty():
         parser.error("the picture wants a file, as -o picture.svg, and not a terminal")
+    if given.output and (why := files.refusal(given.output)):
+        parser.error(why)
+    given.html = given.html or files.is_page(given.output or "")
 
 
 def trace_of(given: argparse.Namespace, name: str) -> Trace:
@@ -118,8 +125,7 @@ def turn(given: argparse.Namespace) -> None:
     """Reads the trace and writes its picture; a fault of the trace is raised after that."""
     trace = trace_of(given, given.trace)
     text = picture_of(trace, command.units_for(given, set(trace.axes)), given)
-    with open(given.output or 1, "w", encoding="utf-8", newline="\n") as target:
-        target.write(text)
+    files.write(text, given.output)
     if trace.fault:
         raise trace.fault
 
