@@ -83,6 +83,20 @@ class Claims(unittest.TestCase):
         self.assertEqual(cited - clauses - fields, set())
 
 
+class Decisions(unittest.TestCase):
+
+    def test_sections_and_choices_are_numbered(self):
+        section = choice = 0
+        for line in (ROOT / "docs" / "DECISIONS.md").read_text(encoding="utf-8").split("\n"):
+            if line.startswith("## "):
+                section, choice = section + 1, 0
+                self.assertTrue(line.startswith(f"## {section}. "), line)
+            elif line.startswith("- "):
+                choice += 1
+                self.assertTrue(line.startswith(f"- **{section}.{choice}** "), line[:60])
+        self.assertGreater(section, 20)
+
+
 class Words(unittest.TestCase):
     """Words for which docs/glossary.md has better ones; names and the program's output stand in backticks or indented."""
 
