@@ -8,10 +8,10 @@ use Rattle.motion_numbers.specs.Run.{run_of, reach_of}
 use Rattle.motion_numbers.proofs.Runs.{run_unfold, run_ge, run_mono}
 use Rattle.motion_numbers.proofs.Reaches.{reach_greatest, fits_below_reach}
 use Rattle.jerk_core.specs.declared.rates.JerkRates.{JerkRates}
-use Rattle.jerk_core.specs.Braking.{braked_of}
-use Rattle.jerk_core.specs.Rates.{AreJerkRates, IsKeptBy}
-use Rattle.jerk_core.proofs.Brakes.{reach_within, IsBraked, braked_bounds}
-use Rattle.jerk_core.proofs.KeptMotions.{lands_within, falls_within}
+use Rattle.jerk_core.specs.Braking.{braked_of, way_of}
+use Rattle.jerk_core.specs.Rates.{AreJerkRates, IsKeptBy, IsSafeBy}
+use Rattle.jerk_core.proofs.Brakes.{reach_within, reach_mono, IsBraked, braked_bounds}
+use Rattle.jerk_core.proofs.KeptMotions.{lands_within, falls_within, tops_within}
 use Rattle.jerk_core.proofs.Spending.{IsUpWithin, up_up, up_down, up_flat, up_some, up_start, up_rates, down_start, lower}
 use Rattle.jerk_core.proofs.Rests.{Rests, flat_rests, down_rests, up_rests}
 use Rattle.jerk_plan.specs.Wanted.{velocity_of, velocity_after}
@@ -292,3 +292,63 @@ pub velocity_stays_above : (rates : JerkRates) (wanted w v : ℕ) → AreJerkRat
 velocity_stays_above rates wanted w v ok above loses lands =
     let within : w - v - rates.j ≤ reach_of (v - wanted) rates.j = reach_greatest (w - v - rates.j) (v - wanted) rates.j (omega (arith, ok.j_least)) lands in
     (above_next rates wanted w v (velocity_of rates wanted w v) ok above (omega arith) refl).above
+
+-- a gain that isn't greater than the last one less j can be taken back as that one could
+tops_next : (V w v x j : ℕ) → 0 < j → v + run_of (v - w - j) j ≤ V → x ≤ v + (v - w - j) → x + run_of (x - v - j) j ≤ V
+tops_next V w v x j some tops slower =
+    let less : run_of (x - v) j ≤ run_of (v - w - j) j = run_mono (x - v) (v - w - j) j some (omega arith) in
+    omega (arith, run_unfold (x - v) j some)
+
+-- the speed of a velocity command is safe by its rates wherever the way to rest after it fits
+pub velocity_safe : (rates : JerkRates) (room wanted w v : ℕ) → AreJerkRates rates → IsKeptBy rates room w v → wanted ≤ rates.v →
+    velocity_of rates wanted w v + way_of rates.d rates.j v (velocity_of rates wanted w v) ≤ room → IsSafeBy rates room w v (velocity_of rates wanted w v)
+velocity_safe rates room wanted w v ok kept slow fits = elim (cases_lt wanted v) [
+  | inl more ↦ above (velocity_of rates wanted w v) (velocity_above rates wanted w v ok (omega arith)) (omega arith) fits
+  | inr less ↦ below (velocity_of rates wanted w v) (velocity_below rates wanted w v less) less fits
+]
+  where
+    above : (x : ℕ) → x ≡ max (2 * v - (w + rates.j)) (min (2 * v + rates.j - w) (v - min rates.d (reach_of (v - wanted) rates.j))) → wanted ≤ v →
+        x + way_of rates.d rates.j v x ≤ room → IsSafeBy rates room w v x
+    above x is over enough =
+        let some : 0 < rates.j = omega (arith, ok.j_least) in
+        let landed : run_of (w - v - rates.j) rates.j ≤ v = kept.lands in
+        let small : w - v - rates.j ≤ v = omega (arith, run_ge (w - v - rates.j) rates.j some) in
+        let reach : reach_of (v - wanted) rates.j ≤ reach_of v rates.j = reach_mono (v - wanted) v rates.j some (omega arith) in
+        let gains : v ≤ w + rates.a = kept.gains in
+        let loses : w ≤ v + rates.d = kept.loses in
+        let tops : x + run_of (x - v - rates.j) rates.j ≤ rates.v = tops_next rates.v w v x rates.j some kept.tops (omega arith) in
+        let lands : run_of (v - x - rates.j) rates.j ≤ x = elim (cases_lt (x + reach_of v rates.j) v) [
+          | inl falls ↦ lands_next w v x rates.j some landed (omega arith)
+          | inr within ↦ lands_within v x rates.j some within
+        ] in
+        record {
+          bends = omega arith;
+          rises = omega arith;
+          after = record {
+            within = omega arith;
+            kept = record { speed = omega arith; gains = omega arith; loses = omega arith; lands = lands; tops = tops; fits = omega arith };
+          };
+        }
+
+    below : (x : ℕ) → x ≡ max (2 * v - (w + rates.j)) (min (2 * v + rates.j - w) (v + min rates.a (reach_of (wanted - v) rates.j))) → v ≤ wanted →
+        x + way_of rates.d rates.j v x ≤ room → IsSafeBy rates room w v x
+    below x is under enough =
+        let some : 0 < rates.j = omega (arith, ok.j_least) in
+        let landed : run_of (w - v - rates.j) rates.j ≤ v = kept.lands in
+        let small : w - v - rates.j ≤ v = omega (arith, run_ge (w - v - rates.j) rates.j some) in
+        let reach : reach_of (wanted - v) rates.j ≤ reach_of (rates.v - v) rates.j = reach_mono (wanted - v) (rates.v - v) rates.j some (omega arith) in
+        let gains : v ≤ w + rates.a = kept.gains in
+        let loses : w ≤ v + rates.d = kept.loses in
+        let lands : run_of (v - x - rates.j) rates.j ≤ x = lands_next w v x rates.j some landed (omega arith) in
+        let tops : x + run_of (x - v - rates.j) rates.j ≤ rates.v = elim (cases_lt (v + reach_of (rates.v - v) rates.j) x) [
+          | inl rises ↦ tops_next rates.v w v x rates.j some kept.tops (omega arith)
+          | inr within ↦ tops_within rates.v v x rates.j some kept.speed within
+        ] in
+        record {
+          bends = omega arith;
+          rises = omega arith;
+          after = record {
+            within = omega arith;
+            kept = record { speed = omega arith; gains = omega arith; loses = omega arith; lands = lands; tops = tops; fits = omega arith };
+          };
+        }
