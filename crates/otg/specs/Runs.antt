@@ -107,7 +107,7 @@ pub record IsVelocity (otg : Otg) : Type 0 where
 abbrev pub next_speed_of : Otg → ℕ
 next_speed_of otg = velocity_of (velocity_rates_of otg) (unsigned_abs otg.target) (last_of otg) (speed_of otg)
 
--- and the way of that cycle and of stopping behind it, by the velocity's own rates
+-- and the way of that cycle and of stopping after it, by the velocity's own rates
 abbrev pub next_way_of : Otg → ℕ
 next_way_of otg = next_speed_of otg + way_of otg.d otg.j (speed_of otg) (next_speed_of otg)
 

@@ -19,9 +19,9 @@ pub fn moves_are_done()
 {}
 
 /// A halt is at rest once k + n + 2 steps are made, with no other command in between, where k of
-/// its j have amax and its d together, and n of its d have vmax; and stays at rest: from any motion
-/// of an open generator by dmax and jmax, and by a lesser d and j from one that they can stop within
-/// the limits.
+/// its j have amax and its d together, and n of its d have vmax; and stays at rest: by dmax and jmax
+/// from any motion of an open generator, and by a lesser d and j from one that keeps them and can
+/// stop by them within the limits.
 pub fn halts_are_done()
     ensures by_limits { (run : ℕ → Otg) (k n m : ℕ) → IsRun run → IsHaltByLimits (run zero) →
         unsigned_abs (run zero).amax + (run zero).d ≤ k * (run zero).j → unsigned_abs (run zero).vmax ≤ n * (run zero).d →
@@ -31,10 +31,10 @@ pub fn halts_are_done()
         k + n + 2 ≤ m → IsAtRest (run m) }
 {}
 
-/// A velocity is reached once k + n + 1 steps are made, with no other command in between, from any
-/// motion in its direction that its rates can stop within the limits, where k of its j have its a
-/// and d together, n of its d have vmax less the velocity, and n of its a have the velocity; and
-/// goes on, as long as there is room to stop behind the next step.
+/// A velocity is reached once k + n + 1 steps are made, with no other command in between, where k of
+/// its j have its a and d together, n of its d have vmax less the velocity, and n of its a have the
+/// velocity: from any motion in its direction that keeps its rates and can stop by them within the
+/// limits. It is held as long as there is room to stop by them after the next step.
 pub fn velocities_are_done()
     ensures up { (run : ℕ → Otg) (k n m : ℕ) → IsRun run → IsVelocityUp (run zero) → ((i : ℕ) → i < m → HasRoomAbove (run i)) →
         (run zero).a + (run zero).d ≤ k * (run zero).j →
