@@ -142,8 +142,8 @@ class Builds(unittest.TestCase):
         status, _, told = self.run_tool("tools/build", "--library")
         self.assertEqual(status, 0, told)
         self.assertRegex(told, r"4 of 4 crates proved, about .* left\n"
-                         r"motion: library 1 of 2, motion_c: about \d+ minutes left for both\n"
-                         "motion: library 2 of 2, otg\n")
+                         r"motion: library 1 of 2, motion_c; about \d+ minutes left for all\n"
+                         r"motion: library 2 of 2, otg; about \d+ minutes left for all\n")
         self.assertEqual((self.top / "crates/otg/out/libotg.a").read_text(), "otg\n")
         self.assertEqual(self.ran(), ["ci", "lib motion_c", "lib otg"])
         # the program alone is kept by its own files, and both libraries by theirs
