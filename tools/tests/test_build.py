@@ -68,7 +68,7 @@ class Builds(unittest.TestCase):
         (self.room / "rt/rt").chmod(0o755)
         shutil.copytree(TOOLS / "motion_tools", self.top / "tools" / "motion_tools",
                         ignore=shutil.ignore_patterns("__pycache__"))
-        for name in ("build", "crates.py", "progress.py"):
+        for name in ("build", "crates.py", "progress.py", "steps.py"):
             shutil.copy(TOOLS / name, self.top / "tools")
         self.put("top/tools/stamp_libraries", "#!/bin/sh\n").chmod(0o755)
         shutil.copy(TOOLS.parent / "motion", self.top)
