@@ -11,6 +11,7 @@ from motion_tools.trace import Machine, ReadFault, Trace, TraceError, lines_of
 from motion_tools.units import Scale, Units, scale_of
 
 READ, ILLEGAL, USAGE, REFUSED, UNREADABLE, UNWRITTEN = 0, 1, 2, 3, 4, 6   # as those of `motion`
+NOT_BUILT = 70                                                             # as that of ./motion
 MOMENT = re.compile(r"([0-9]+(?:\.[0-9]+)?)(ms|s)?")
 STATUSES = """\
 ends with 0; with 2 where an option is faulty, with 3 where the text is no trace (what was read of

@@ -19,7 +19,7 @@ from io import StringIO
 from pathlib import Path
 from typing import Optional, TextIO
 
-from motion_tools import command
+from motion_tools import command, programs
 from motion_tools.explain import command as explain
 from motion_tools.explain.findings import words_of as text_of
 from motion_tools.explain.texts import kind_of
@@ -27,7 +27,6 @@ from motion_tools.plot import command as plot
 from motion_tools.plot import files
 from motion_tools.trace import SECONDS_OF_SILENCE, ReadFault, TraceError
 
-ROOT = Path(__file__).resolve().parents[2]
 SECONDS_OF_THREADS = 10.0
 SLOW = ("; it has a thread for each drive and task, and is slow while other programs use the "
         "processors; motion st has one thread")
@@ -50,7 +49,8 @@ def parser() -> argparse.ArgumentParser:
                        help="verifies the trace by its replay, as `motion check` does")
     words.add_argument("--strict", action="store_true", help="ends with 1 where there is a warning")
     words.add_argument("--motion", metavar="FILE",
-                       help="the program; left out, `motion` beside the folder of the tools")
+                       help="the program; left out, the proved one where it is built, else the "
+                       "unproved one of tools/preview")
     return words
 
 
@@ -66,6 +66,8 @@ def main() -> int:
         return command.fail("motion-run", str(error), command.USAGE)
     except (ReadFault, TraceError) as error:
         return command.fail("motion-run", str(error), command.UNREADABLE)
+    except programs.NotBuilt as error:
+        return command.fail("motion-run", str(error), command.NOT_BUILT)
     except OSError as error:
         return command.fail("motion-run", f"{error.filename}: {error.strerror}", command.UNWRITTEN)
 
@@ -76,7 +78,7 @@ def run(options: argparse.Namespace) -> int:
     for picture in options.plot:
         if why := files.refusal(picture):
             raise WrongFiles(f"--plot {why}")
-    program = options.motion or str(ROOT / "motion")
+    program = options.motion or str(programs.chosen("motion-run"))
     status = made([program, *words], Path(options.output))
     trace = Path(options.output)
     is_trace = trace.stat().st_size > 0 and trace.open("rb").read(5) == b"kind,"

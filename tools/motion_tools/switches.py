@@ -17,7 +17,7 @@ from fractions import Fraction
 from pathlib import Path
 from typing import Optional
 
-from motion_tools import command
+from motion_tools import command, programs
 from motion_tools.explain import lines
 from motion_tools.explain.faults import Fault, chosen
 from motion_tools.explain.findings import Finding, words_of
@@ -25,7 +25,6 @@ from motion_tools.explain.refusals import MOST, finding_of
 from motion_tools.explain.switch_units import small_positions
 from motion_tools.explain.texts import kind_by_text
 from motion_tools.explain.verdicts import verdict_findings
-from motion_tools.machine import ROOT
 from motion_tools.plot.edges import EdgeError, read_edges
 from motion_tools.trace import Machine, ReadFault, Trace, lines_of
 from motion_tools.units import Units
@@ -42,7 +41,8 @@ def parser() -> argparse.ArgumentParser:
     words.add_argument("--times", action="store_true",
                        help="a table with times and positions in place of edges")
     words.add_argument("--motion", metavar="FILE",
-                       help="the program; left out, `motion` beside the folder of the tools")
+                       help="the program; left out, the proved one where it is built, else the "
+                       "unproved one of tools/preview")
     command.add_units(words)
     return words
 
@@ -50,7 +50,10 @@ def parser() -> argparse.ArgumentParser:
 def main() -> int:
     options = parser().parse_args()
     statuses: list[int] = []
-    status = command.ended("switches", options.trace, lambda: statuses.append(turn(options)))
+    try:
+        status = command.ended("switches", options.trace, lambda: statuses.append(turn(options)))
+    except programs.NotBuilt as error:
+        return command.fail("switches", str(error), command.NOT_BUILT)
     return status or statuses[0]
 
 
@@ -109,7 +112,7 @@ def ran(options: argparse.Namespace, text: str) -> "subprocess.CompletedProcess[
                                      errors="surrogateescape") as file:
         file.write(text)
         file.flush()
-        program = options.motion or str(ROOT / "motion")
+        program = options.motion or str(programs.chosen("switches"))
         return subprocess.run([program, "switches", options.trace, file.name], check=False,
                               capture_output=True, encoding="utf-8")
 

@@ -54,6 +54,49 @@ class Crates(unittest.TestCase):
                     self.assertTrue(name in names or (ROOT / "crates" / name).is_dir())
 
 
+class Claims(unittest.TestCase):
+    """What docs/proved.md cites is there: each crate, each name in it, and each clause or field."""
+
+    PROVED = (ROOT / "docs" / "proved.md").read_text(encoding="utf-8")
+
+    @staticmethod
+    def texts(pattern):
+        return [path.read_text(encoding="utf-8") for path in (ROOT / "crates").glob(pattern)]
+
+    def test_each_name_stands_in_its_crate(self):
+        cited = re.findall(r"\b([a-z][a-z0-9_]*)((?:::\w+)+)", self.PROVED)
+        self.assertGreater(len(cited), 200)
+        words = {}
+        for crate, path in cited:
+            if crate not in words:
+                texts = [text for part in ("src/**/*.rt", "specs/**/*.antt") for text in self.texts(f"{crate}/{part}")]
+                words[crate] = {word for text in texts for word in re.findall(r"\w+", text)}
+            for name in path.split("::")[1:]:
+                with self.subTest(crate=crate, name=name):
+                    self.assertIn(name, words[crate])
+
+    def test_each_clause_and_field_is_one(self):
+        clauses = {name for text in self.texts("*/src/**/*.rt") for name in re.findall(r"ensures (\w+) \{", text)}
+        fields = {name for text in self.texts("*/specs/**/*.antt") for name in re.findall(r"^ +pub (\w+) :", text, re.MULTILINE)}
+        cited = set(re.findall(r"`\.(\w+)`", self.PROVED)) - {"ci"}
+        self.assertGreater(len(cited), 50)
+        self.assertEqual(cited - clauses - fields, set())
+
+
+class Decisions(unittest.TestCase):
+
+    def test_sections_and_choices_are_numbered(self):
+        section = choice = 0
+        for line in (ROOT / "docs" / "DECISIONS.md").read_text(encoding="utf-8").split("\n"):
+            if line.startswith("## "):
+                section, choice = section + 1, 0
+                self.assertTrue(line.startswith(f"## {section}. "), line)
+            elif line.startswith("- "):
+                choice += 1
+                self.assertTrue(line.startswith(f"- **{section}.{choice}** "), line[:60])
+        self.assertGreater(section, 20)
+
+
 class Words(unittest.TestCase):
     """Words for which docs/glossary.md has better ones; names and the program's output stand in backticks or indented."""
 

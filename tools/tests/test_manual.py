@@ -30,7 +30,7 @@ class Pages(unittest.TestCase):
         self.assertEqual(self.ended, (0, "", ""))
         scripts = {path.name for path in TOOLS.iterdir()
                    if path.is_file() and b"motion_tools" in path.read_bytes()}
-        self.assertEqual(scripts - {"release"}, set(manual.TOOLS))
+        self.assertEqual(scripts - {"release", "preview", "build"}, set(manual.TOOLS))
         for name in ["motion", *manual.TOOLS]:
             self.assertTrue(self.page(name).read_text(encoding="utf-8").startswith(".TH "), name)
 

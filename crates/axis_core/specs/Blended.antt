@@ -1,7 +1,7 @@
 -- Moves that are blended into the next one, and that they end in time (PLCopen Motion Control Part
 -- 1, BufferMode; the bounds are this project's profile).
 use Rattle.std.specs.Prelude.{◌≡◌, ℕ, ◌+◌, ◌≤◌, true, Option, Some, None, List, slice_get}
-use Rattle.blend_laws.specs.FirstMove.{FirstEndsWithin, crossing_bound_of, first_bound_of}
+use Rattle.axis_core.specs.FirstMove.{FirstEndsWithin, crossing_bound_of, first_bound_of}
 use Rattle.blend_plan.specs.BlendRun.{HasBlend}
 use Rattle.command_pool.specs.declared.ending.Finish.{Finish}
 use Rattle.command_pool.specs.declared.wanted.Wanted.{Wanted}

@@ -22,7 +22,7 @@ ghost use Rattle.axis_core.specs.Refusals.{Asked, refusal_of};
 ghost use Rattle.axis_core.specs.declared.look.AxisLook.{AxisLook};
 ghost use Rattle.axis_core.specs.declared.axis.Axis.{Axis};
 
-use blend_laws::first_moves_end;
+use crate::blend_laws::first_moves_end;
 use blend_plan::{blend_velocities_are_of_the_moves, blends_apply_by_test};
 use trapezoid_plan::{halts_come_to_rest_in_time, moves_arrive_in_time};
 

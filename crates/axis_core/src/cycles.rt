@@ -78,8 +78,8 @@ fn row(input: &DriveIn, axis: &Axis) -> AxisRow
     }
 }
 
-// A cycle of the axis, before it is shown.
-fn cycle_axis(look: &AxisLook, axis: &mut Axis, pool: &mut CommandPool, list: u8, notes: &mut Notes)
+// The axis goes through a cycle, before it is shown.
+fn go_through(look: &AxisLook, axis: &mut Axis, pool: &mut CommandPool, list: u8, notes: &mut Notes)
     requires list { list < length pool.old }
     requires room { notes.old ≡ [] }
     requires kept { IsCoreKept (core_at axis.old pool.old list notes.old) }
@@ -90,6 +90,7 @@ fn cycle_axis(look: &AxisLook, axis: &mut Axis, pool: &mut CommandPool, list: u8
     ensures kept { IsCoreKept (core_at axis.new pool.new list notes.new) }
     ensures limits { KeepsSpell axis.old (spec.row_shown look.now.input axis.new) axis.new }
 {
+    // laws
     ends_tell_their_owners();
     taken_steps_keep();
     braking_steps_are_only_cut();
@@ -128,7 +129,8 @@ pub fn cycle_and_show(
     ensures kept { IsCoreKept (core_at axis.new pool.new list notes.new) }
     ensures limits { KeepsSpell axis.old result axis.new }
 {
+    // laws
     offsets_are_small();
-    cycle_axis(look, axis, pool, list, notes);
+    go_through(look, axis, pool, list, notes);
     row(&look.input, axis)
 }

@@ -49,6 +49,7 @@ impl AxisCore {
         requires { IsAxisDef def.now }
         ensures { result ≡ cycles.axis_at_opening def.now }
     {
+        // laws
         standing_is_kept();
         setpoints_have_counts();
         AxisCore {
@@ -126,6 +127,7 @@ impl AxisCore {
     pub fn answer_error(&self, input: &DriveIn) -> u16
         ensures { result ≡ drives.answer_error_of self.now input.now }
     {
+        // laws
         offsets_are_small();
         crate::driving::answer_error(&self.axis, input)
     }

@@ -96,6 +96,7 @@ pub fn taken_toward(axis: &Axis, place: i64, wanted: &Wanted) -> i64
     ensures value { result ≡ taken_step_in axis.now (spec.step_toward axis.now place wanted.now) }
     ensures small { IsStep result }
 {
+    // laws
     move_steps_are_safe();
     let planned = plan_move(way(axis.setpoint, place), old_step(axis), &wanted.rates);
     if planned.follows {

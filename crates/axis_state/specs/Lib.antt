@@ -1,3 +1,4 @@
 pub mod Diagram
 pub mod States
 pub mod Spells
+pub mod GroupDiagram

@@ -36,6 +36,7 @@ pub fn run_text<K: Sink>(
         (record { count = K.count out.old; told = K.told out.old })
         (record { count = K.count out.new; told = K.told out.new }) result }
 {
+    // laws
     runs_are_in_step();
     match read_bench(alloc, text) {
         Ok(bench) => run_bench(alloc, &bench, cut, out),
@@ -54,6 +55,7 @@ fn run_bench<K: Sink>(alloc: Global, bench: &Bench, cut: Option<u32>, out: &mut 
     let Ok(ran) = run(alloc, bench, cut) else {
         return Status::OutOfMemory;
     };
+    // laws
     trace_is_read_again(bench, &ran);
     status_by(status_of(ran.ending), write_run(alloc, bench, &ran, out))
 }
@@ -98,6 +100,7 @@ fn write_run<K: Sink>(
         (trace_text bench.now.version Command.Bench bench.now.config ran.now.kernel.history
         (map (drive_end (cycles_of ran.now.kernel.history)) ran.now.drives.items)) result }
 {
+    // laws
     parts_are_beginnings();
     let history = ran.kernel.history();
     let Ok(drives) = ends_of(alloc, ran) else {

@@ -54,12 +54,14 @@ pub fn run(alloc: Global, bench: &Bench, cut: Option<u32>) -> Result<Ran, OutOfM
     ensures going { IfOk result (λ r. IsGoing r.kernel r.drives.items) }
     ensures legal { OnOk result (IsLegalRun bench.now) }
 {
+    // laws
     drives_can_be_opened();
     let config = bench.config();
     let mut drives = open_drives(alloc, config.axes(), bench.drives().as_slice())?;
     let mut primary = PrimaryKernel::open(alloc, config.copy(alloc)?, cut)?;
     let ending = make_all(&mut primary, drives.as_mut_slice(), bench.lines());
     let kernel = primary.finish();
+    // laws
     histories_are_legal(&kernel);
     Ok(Ran {
         kernel,

@@ -17,21 +17,7 @@ use drive_sim::Drive;
 use hot_standby::PrimaryKernel;
 use machine_drives::{answer_all, step_all};
 use motion_history::MOST_AXES;
-use plc_types::{DriveIn, DriveOut, Inputs, Outputs};
-
-/// An answer before it is given.
-const NO_ANSWER: DriveIn = DriveIn {
-    statusword: 0,
-    mode_display: 0,
-    actual: 0,
-};
-
-/// An output before it is given.
-const NO_OUTPUT: DriveOut = DriveOut {
-    controlword: 0,
-    mode: 0,
-    target: 0,
-};
+use plc_types::{Inputs, NO_ANSWER, NO_OUTPUT, Outputs};
 
 // Whether there is room for an event: for a cycle, cycles first, then entries.
 #[tactic(auto, unfolding(crate::specs::Run::room_for))]

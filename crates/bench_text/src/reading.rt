@@ -28,6 +28,7 @@ pub fn read_bench(alloc: Global, text: &[u8]) -> Result<Bench, TextFault>
     // A text that has none is refused so.
     ensures exact { ReadsBy (spec.bench_of text.now) result }
 {
+    // laws
     lines_are_spelled();
     read(alloc, text)
 }
@@ -37,6 +38,7 @@ pub fn read_bench(alloc: Global, text: &[u8]) -> Result<Bench, TextFault>
 fn read(alloc: Global, text: &[u8]) -> Result<Bench, TextFault>
     ensures { ReadsBy (spec.bench_of text.now) result }
 {
+    // laws
     inputs_are_fit();
     let mut reader = opened(alloc)?;
     match read_lines(alloc, text, &mut reader) {

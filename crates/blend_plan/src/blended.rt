@@ -33,6 +33,7 @@ pub fn blend_step(l1: i64, l2: i64, old: i64, first: &Rates, second: &Rates, vb:
     ensures ahead { pos 0 ≤ℤ result.0 }
     ensures small { result.0 ≤ℤ pos MOST_STEP }
 {
+    // laws
     searches_find_the_greatest();
     steps_fall_toward_zero();
     blend_from::<Brand>(l1, l2, old, first, second, vb, Blank::new(1))

@@ -34,6 +34,7 @@ pub(crate) fn greatest_passing<L: Ledger>(
     ensures small { result ≤ MOST_STEP }
     ensures cost { steps.new ≤ steps.old + 128 }
 {
+    // laws
     ways_to_rest();
     let (v, a, d) = (first.v as u64, first.a as u64, first.d as u64);
     let fastest = (old + a).min(v.max(vb));

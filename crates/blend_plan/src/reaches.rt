@@ -18,6 +18,7 @@ pub(crate) fn reach_up_to<L: Ledger>(way: u64, d: u64, most: u64, steps: &mut St
     ensures value { result ≡ min most (reach_of way d) }
     ensures cost { steps.new ≤ steps.old + 64 }
 {
+    // laws
     ways_to_rest();
     if ramp_sum(most, d) <= way as u128 {
         most
@@ -63,6 +64,7 @@ fn greatest_slowed<L: Ledger>(way: u64, to: u64, d: u64, steps: &mut Steps<L>) -
     ensures greatest { (u : ℕ) → above_of u to d ≤ way → u ≤ result }
     ensures cost { steps.new ≤ steps.old + 64 }
 {
+    // laws
     sums_of_ramps();
     let terms = greatest_count_counted(way as u128, d, to + 1, steps);
     if terms == 0 {

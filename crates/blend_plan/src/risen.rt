@@ -62,6 +62,7 @@ fn greatest_risen_below<L: Ledger>(
     ensures greatest { (u : ℕ) → from < u → u ≤ high → way ≤ rise_of u top a → u ≤ result }
     ensures cost { steps.new ≤ steps.old + 64 }
 {
+    // laws
     sums_of_ramps();
     let fewest = (top - high).div_ceil(a);
     let most = (top - from - 1).div_ceil(a);
@@ -97,6 +98,7 @@ fn rise_sum(u: u64, v: u64, a: u64) -> u128
     ensures value { result ≡ rise_of u v a }
     ensures small { result < 2 ^ 70 }
 {
+    // laws
     sums_of_ramps();
     with_terms((v - u).div_ceil(a), u, v, a)
 }

@@ -32,6 +32,7 @@ pub(crate) fn step_size<L: Ledger>(
     ensures small { result ≤ MOST_STEP }
     ensures cost { steps.new ≤ steps.old + 192 }
 {
+    // laws
     searches_find_the_greatest();
     let greatest = greatest_step(l1, l2, old, first, second, vb, steps);
     let braking = (first.d as u64).max(second.d as u64);
@@ -67,6 +68,7 @@ fn greatest_step<L: Ledger>(
     ensures small { result ≤ MOST_STEP }
     ensures cost { steps.new ≤ steps.old + 192 }
 {
+    // laws
     ways_to_rest();
     let passing = greatest_passing(l1, l2, old, first, second, vb, steps);
     let fastest = (first.v as u64).min(old + first.a as u64);

@@ -11,7 +11,7 @@ use crate::linking::{
 };
 use crate::notes::Notes;
 use crate::wanted::Wanted;
-use out_of_memory::OutOfMemory;
+use motion_numbers::OutOfMemory;
 use std::alloc::{AllocError, Global};
 use std::marker::Model;
 

@@ -8,6 +8,6 @@ mod numbers;
 mod request;
 mod words;
 
-pub use out_of_memory::OutOfMemory;
+pub use motion_numbers::OutOfMemory;
 pub use request::{Job, Request, asked};
 pub use words::{Words, words_from};

@@ -15,7 +15,7 @@ use crate::numbers::{cut_in, seed_in, workers_in};
 use crate::words::Words;
 use clap::error::ErrorKind;
 use clap::{ArgMatches, Error};
-use out_of_memory::OutOfMemory;
+use motion_numbers::OutOfMemory;
 use std::alloc::Global;
 use std::num::NonZeroU8;
 

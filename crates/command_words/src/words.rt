@@ -4,7 +4,7 @@ ghost use Rattle.std.specs.Prelude.{◌≡◌, ◌++◌, ◌∷◌, [], IfOk, On
 ghost use Rattle.std.specs.String.{string_bytes};
 ghost use Rattle.command_words.specs.Args.{words_of};
 
-use out_of_memory::OutOfMemory;
+use motion_numbers::OutOfMemory;
 use std::alloc::{AllocError, Global};
 use std::env::Args;
 use std::marker::Model;

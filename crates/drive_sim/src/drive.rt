@@ -7,7 +7,7 @@ ghost use Rattle.drive_sim.specs.Steps as spec;
 use crate::steps::{followed, has_fault, keeps_target};
 use cia402_machine::{DISABLE_VOLTAGE, ENABLE_OPERATION, drive_step, status_of};
 use circular_buffer::HeapCircularBuffer;
-use out_of_memory::OutOfMemory;
+use motion_numbers::OutOfMemory;
 use plc_types::{CYCLIC_SYNCHRONOUS_POSITION, DriveIn, DriveOut, DriveState};
 use std::alloc::Global;
 use std::marker::Model;

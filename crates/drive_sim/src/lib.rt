@@ -13,5 +13,5 @@ pub use laws::{
     answers_come_one_cycle_later, lags_are_counted_in_kept_targets, other_steps_forget_targets,
     steps_are_counted,
 };
-pub use out_of_memory::OutOfMemory;
+pub use motion_numbers::OutOfMemory;
 pub use plc_types::{DriveIn, DriveOut, DriveState};

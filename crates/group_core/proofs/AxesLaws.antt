@@ -8,8 +8,8 @@ use Rattle.command_pool.specs.declared.ending.Finish.{Finish}
 use Rattle.plc_types.specs.declared.kind.BlockKind.{BlockKind}
 use Rattle.plc_types.specs.declared.kind.BlockKind.TheVariants as kind
 use Rattle.command_pool.specs.declared.wanted.Wanted.{Wanted}
-use Rattle.group_state.specs.Diagram.{next_of}
-use Rattle.group_state.specs.declared.diagram.GroupEvent.TheVariants as event
+use Rattle.axis_state.specs.GroupDiagram.{next_of}
+use Rattle.axis_state.specs.declared.group_diagram.GroupEvent.TheVariants as event
 use Rattle.group_core.specs.Calls.{admitted_by, asked_in, braked_for, commanded, commanded_by, group_without, powered_off, queued, waits_for_rest}
 use Rattle.group_core.specs.Cores.{Core, ended, ended_by, failed, line_begun, taken_over}
 use Rattle.group_core.specs.Cycles.{answered, cycled, ending_of, moved, path_after, released, reset_where}

@@ -8,7 +8,7 @@ use Rattle.command_pool.specs.declared.ending.Finish.TheVariants as finish
 use Rattle.plc_types.specs.declared.kind.BlockKind.{BlockKind}
 use Rattle.plc_types.specs.declared.kind.BlockKind.TheVariants as kind
 use Rattle.command_pool.specs.declared.wanted.Wanted.{Wanted}
-use Rattle.group_state.specs.Diagram.{IsFrom}
+use Rattle.axis_state.specs.GroupDiagram.{IsFrom}
 use Rattle.plc_types.specs.declared.group.GroupState.{GroupState}
 use Rattle.plc_types.specs.declared.group.GroupState.TheVariants as state
 use Rattle.plc_types.specs.declared.limits.Limits.{Limits}

@@ -9,8 +9,8 @@ use Rattle.buffer_modes.specs.Queue.{is_aborting}
 use Rattle.plc_types.specs.declared.kind.BlockKind.{BlockKind}
 use Rattle.plc_types.specs.declared.kind.BlockKind.TheVariants as kind
 use Rattle.command_pool.specs.declared.wanted.Wanted.{Wanted}
-use Rattle.group_state.specs.Diagram.{next_of}
-use Rattle.group_state.specs.declared.diagram.GroupEvent.TheVariants as event
+use Rattle.axis_state.specs.GroupDiagram.{next_of}
+use Rattle.axis_state.specs.declared.group_diagram.GroupEvent.TheVariants as event
 use Rattle.plc_types.specs.declared.group.GroupState.{GroupState}
 use Rattle.plc_types.specs.declared.group.GroupState.TheVariants as state
 use Rattle.plc_types.specs.declared.limits.Limits.{Limits}

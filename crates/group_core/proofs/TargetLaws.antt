@@ -317,42 +317,8 @@ last_by : (k : BlockKind) (w : Wanted) (m : Motion) (step : ℤ) → w.kind ≡ 
     ending_by k m step ≡ Some finish.Done → IsLast w m (moved_by step m)
 last_by kind.MoveLinearAbsolute w m step is e = line_last w m step (int_eq m.place m.limits.hi)
     (int_eq step (pos 0)) refl refl e
-last_by kind.Power w m step is e = halt_last w m step (int_eq step (pos 0))
-    (λ line. not_line kind.Power refl (sym is ∙ line)) refl e
-last_by kind.Reset w m step is e = halt_last w m step (int_eq step (pos 0))
-    (λ line. not_line kind.Reset refl (sym is ∙ line)) refl e
-last_by kind.Home w m step is e = halt_last w m step (int_eq step (pos 0))
-    (λ line. not_line kind.Home refl (sym is ∙ line)) refl e
-last_by kind.Stop w m step is e = halt_last w m step (int_eq step (pos 0))
-    (λ line. not_line kind.Stop refl (sym is ∙ line)) refl e
-last_by kind.Halt w m step is e = halt_last w m step (int_eq step (pos 0))
-    (λ line. not_line kind.Halt refl (sym is ∙ line)) refl e
-last_by kind.MoveAbsolute w m step is e = halt_last w m step (int_eq step (pos 0))
-    (λ line. not_line kind.MoveAbsolute refl (sym is ∙ line)) refl e
-last_by kind.MoveRelative w m step is e = halt_last w m step (int_eq step (pos 0))
-    (λ line. not_line kind.MoveRelative refl (sym is ∙ line)) refl e
-last_by kind.MoveVelocity w m step is e = halt_last w m step (int_eq step (pos 0))
-    (λ line. not_line kind.MoveVelocity refl (sym is ∙ line)) refl e
-last_by kind.GearIn w m step is e = halt_last w m step (int_eq step (pos 0))
-    (λ line. not_line kind.GearIn refl (sym is ∙ line)) refl e
-last_by kind.GearOut w m step is e = halt_last w m step (int_eq step (pos 0))
-    (λ line. not_line kind.GearOut refl (sym is ∙ line)) refl e
-last_by kind.CamIn w m step is e = halt_last w m step (int_eq step (pos 0))
-    (λ line. not_line kind.CamIn refl (sym is ∙ line)) refl e
-last_by kind.CamOut w m step is e = halt_last w m step (int_eq step (pos 0))
-    (λ line. not_line kind.CamOut refl (sym is ∙ line)) refl e
-last_by kind.GroupEnable w m step is e = halt_last w m step (int_eq step (pos 0))
-    (λ line. not_line kind.GroupEnable refl (sym is ∙ line)) refl e
-last_by kind.GroupDisable w m step is e = halt_last w m step (int_eq step (pos 0))
-    (λ line. not_line kind.GroupDisable refl (sym is ∙ line)) refl e
-last_by kind.GroupReset w m step is e = halt_last w m step (int_eq step (pos 0))
-    (λ line. not_line kind.GroupReset refl (sym is ∙ line)) refl e
-last_by kind.GroupStop w m step is e = halt_last w m step (int_eq step (pos 0))
-    (λ line. not_line kind.GroupStop refl (sym is ∙ line)) refl e
-last_by kind.GroupHalt w m step is e = halt_last w m step (int_eq step (pos 0))
-    (λ line. not_line kind.GroupHalt refl (sym is ∙ line)) refl e
-last_by kind.MoveCircularAbsolute w m step is e = halt_last w m step (int_eq step (pos 0))
-    (λ line. not_line kind.MoveCircularAbsolute refl (sym is ∙ line)) refl e
+last_by other w m step is e = halt_last w m step (int_eq step (pos 0))
+    (λ line. not_line other refl (sym is ∙ line)) refl e
 
 last_with : (o : Option Wanted) (w : Wanted) (m : Motion) → o ≡ Some w →
     (advanced_with o m).ending ≡ Some finish.Done → IsLast w m (advanced_with o m).motion

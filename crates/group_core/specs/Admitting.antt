@@ -4,8 +4,8 @@ use Rattle.buffer_modes.specs.Queue.{is_full}
 use Rattle.plc_types.specs.declared.kind.BlockKind.{BlockKind}
 use Rattle.plc_types.specs.declared.kind.BlockKind.TheVariants as kind
 use Rattle.command_pool.specs.declared.wanted.Wanted.{Wanted}
-use Rattle.group_state.specs.Diagram.{IsFrom}
-use Rattle.group_state.specs.declared.diagram.GroupEvent.TheVariants as event
+use Rattle.axis_state.specs.GroupDiagram.{IsFrom}
+use Rattle.axis_state.specs.declared.group_diagram.GroupEvent.TheVariants as event
 use Rattle.group_core.specs.Calls.{queue_in}
 use Rattle.group_core.specs.Cores.{Core}
 use Rattle.group_core.specs.Kinds.{event_of}

@@ -2,8 +2,8 @@
 use Rattle.std.specs.Prelude.{ℕ, Bool, not, ◌&&◌, nat_eq, if◌then◌else◌, pos, Option, Some, None, is_some, [], ◌++◌}
 use Rattle.command_pool.specs.declared.ending.Finish.{Finish}
 use Rattle.command_pool.specs.declared.wanted.Wanted.{Wanted}
-use Rattle.group_state.specs.Diagram.{next_of}
-use Rattle.group_state.specs.declared.diagram.GroupEvent.TheVariants.{StopReleased}
+use Rattle.axis_state.specs.GroupDiagram.{next_of}
+use Rattle.axis_state.specs.declared.group_diagram.GroupEvent.TheVariants.{StopReleased}
 use Rattle.plc_types.specs.declared.group.GroupRow.{GroupRow}
 use Rattle.plc_types.specs.declared.group.GroupState.TheVariants as state
 use Rattle.kin_core.specs.Taken.{taken_step_of}

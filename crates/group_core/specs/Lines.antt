@@ -1,7 +1,7 @@
 -- What a line asks before it begins.
 use Rattle.std.specs.Prelude.{List, [], ◌∷◌, ℤ}
 use Rattle.command_pool.specs.declared.wanted.Wanted.{Wanted}
-use Rattle.group_state.specs.Diagram.{IsFrom}
+use Rattle.axis_state.specs.GroupDiagram.{IsFrom}
 use Rattle.plc_types.specs.declared.group.GroupState.{GroupState}
 use Rattle.linear_path.specs.Line.{AreInRange}
 use Rattle.linear_path.specs.Path.{AreAxesLimits}

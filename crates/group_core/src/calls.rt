@@ -182,6 +182,7 @@ pub fn command(
     ensures others { pool.new ≡ slice_set pool.old list (queue_of pool.new list) }
     ensures kept { IsCoreKept (limits_in members.now) (core_at on.new pool.new list notes.new) }
 {
+    // laws
     standing_is_kept();
     let asking = Asking {
         group: &on.group,

@@ -10,7 +10,7 @@ ghost use Rattle.group_core.specs.Seen.{core_at, on_path};
 ghost use Rattle.group_core.specs.Stepping.{MayStep};
 ghost use Rattle.group_core.specs.Tracks.{OnPath, places_at};
 ghost use Rattle.group_core.specs.blocks.Halts as halts;
-ghost use Rattle.group_state.specs.Diagram.{IsFrom};
+ghost use Rattle.axis_state.specs.GroupDiagram.{IsFrom};
 
 use crate::blocks::halts::is_released;
 use crate::calls::is_moving;
@@ -19,9 +19,9 @@ use crate::look::{GroupLook, GroupStep};
 use crate::moving::step_along;
 use crate::states::{is_error_stop, is_stopping, may_fail};
 use crate::taking_over::{end_by, fail};
+use axis_state::{GroupEvent, group_next};
 use buffer_modes::ends_tell_their_owners;
 use command_pool::{CommandPool, Finish, Notes};
-use group_state::{GroupEvent, group_next};
 use kin_core::{braking_steps_are_only_cut, standing_is_kept, taken_steps_keep};
 use linear_path::LinePath;
 
@@ -98,6 +98,7 @@ fn run(
     ensures others { pool.new ≡ slice_set pool.old list (queue_of pool.new list) }
     ensures kept { IsCoreKept (limits_in members.now) (core_at on.new pool.new list notes.new) }
 {
+    // laws
     ends_tell_their_owners();
     standing_is_kept();
     taken_steps_keep();

@@ -7,7 +7,7 @@ use crate::blocks::enable::{DISABLE_TESTS, ENABLE_TESTS};
 use crate::blocks::halts::HALT_TESTS;
 use crate::blocks::line::{CIRCLE_TESTS, LINE_TESTS};
 use crate::reason::Reason;
-use group_state::GroupEvent;
+use axis_state::GroupEvent;
 use plc_types::{BlockKind, GroupState};
 
 /// The reasons against which a kind is tested, in their order.

@@ -12,16 +12,16 @@ ghost use Rattle.group_core.specs.Refusals as refusals;
 ghost use Rattle.group_core.specs.Seen.{core_at, on_path};
 ghost use Rattle.group_core.specs.Tracks.{OnPath, beginning};
 ghost use Rattle.group_core.specs.blocks.Line.{way_to};
-ghost use Rattle.group_state.specs.Diagram.{IsFrom};
-ghost use Rattle.group_state.specs.declared.diagram.GroupEvent.TheVariants as event;
+ghost use Rattle.axis_state.specs.GroupDiagram.{IsFrom};
+ghost use Rattle.axis_state.specs.declared.group_diagram.GroupEvent.TheVariants as event;
 
 use crate::blocks::halts::hold_by;
 use crate::group::{Group, GroupOnPath, Motion, Track};
 use crate::kinds::event_of;
 use crate::look::{GroupLook, limits_in};
+use axis_state::{GroupEvent, group_next};
 use buffer_modes::abort_all;
 use command_pool::{CommandPool, Finish, Notes, Wanted};
-use group_state::{GroupEvent, group_next};
 use linear_path::{LinePath, path_limits};
 use plc_types::GroupState;
 

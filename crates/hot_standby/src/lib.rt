@@ -18,8 +18,8 @@ pub use event::{Fed, FedEvent};
 pub use feed::{Feed, FeedLog};
 pub use laws::{followers_are_legal, taken_events_are_the_first_pushed};
 pub use motion_kernel::{Config, DriveIn, DriveOut, Inputs, Kernel, Outputs};
+pub use motion_numbers::OutOfMemory;
 pub use opening::open_standby;
-pub use out_of_memory::OutOfMemory;
 pub use primary::PrimaryKernel;
 pub use standby::Standby;
 

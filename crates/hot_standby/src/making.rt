@@ -7,14 +7,7 @@ use crate::event::FedEvent;
 use crate::fits::fits;
 use motion_history::MOST_AXES;
 use motion_kernel::Kernel;
-use plc_types::{DriveIn, DriveOut};
-
-/// An output before it is given.
-const NO_OUTPUT: DriveOut = DriveOut {
-    controlword: 0,
-    mode: 0,
-    target: 0,
-};
+use plc_types::{DriveIn, NO_OUTPUT};
 
 // Makes an event, where it fits the kernel.
 pub(crate) fn try_make(kernel: &mut Kernel, event: &FedEvent) -> bool

@@ -6,7 +6,7 @@ ghost use Rattle.hot_standby.specs.Beside.{AreNew};
 use crate::feed::Feed;
 use crate::standby::Standby;
 use motion_kernel::{Config, Kernel};
-use out_of_memory::OutOfMemory;
+use motion_numbers::OutOfMemory;
 use rtrb::RingBuffer;
 use std::alloc::Global;
 

@@ -15,17 +15,10 @@ use crate::event::FedEvent;
 use crate::follower::{Follower, follow, switch_over};
 use crate::opening::open_standby;
 use motion_kernel::{Config, Inputs, Kernel, Outputs};
-use out_of_memory::OutOfMemory;
-use plc_types::{DriveIn, DriveOut};
+use motion_numbers::OutOfMemory;
+use plc_types::{DriveIn, DriveOut, NO_ANSWER};
 use std::alloc::Global;
 use std::marker::Model;
-
-/// An answer before it is given.
-const NO_ANSWER: DriveIn = DriveIn {
-    statusword: 0,
-    mode_display: 0,
-    actual: 0,
-};
 
 /// A kernel that a standby may follow. Contracts see it as the kernel, whichever of the two it is,
 /// and as the number of events after which the standby takes its place.

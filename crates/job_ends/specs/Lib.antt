@@ -5,3 +5,4 @@ pub mod Causes
 pub mod Exits
 pub mod Readings
 pub mod Courses
+pub mod Machines

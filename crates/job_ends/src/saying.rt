@@ -17,6 +17,7 @@ pub fn say_all<K: Sink>(line: &[u8], status: Status, out: &mut K) -> Status
         (record { count = K.count out.new; told = K.told out.new })
         (record { status = status; text = line.now }) result }
 {
+    // laws
     parts_are_beginnings();
     match write_all(out, line) {
         Ok(()) => status,

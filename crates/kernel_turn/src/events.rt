@@ -40,6 +40,7 @@ pub fn try_call(
         let quiet = kernel.quiet_tasks();
         return Turn::Early { quiet, cycles };
     }
+    // laws
     cycles_add_up();
     let answer = kernel.call(task, instance, inputs);
     Turn::Made {
@@ -68,6 +69,7 @@ pub fn try_cycle(kernel: &mut Kernel, ins: &[DriveIn], outs: &mut [DriveOut]) ->
     if kernel.cycles_left() == 0 {
         return Turn::Full { entries, cycles };
     }
+    // laws
     cycles_add_up();
     kernel.cycle(ins, outs);
     Turn::Made {
@@ -88,6 +90,7 @@ pub fn try_end(kernel: &mut Kernel, task: u8) -> Turn<()>
     if kernel.room_left() == 0 {
         return Turn::Full { entries, cycles };
     }
+    // laws
     cycles_add_up();
     kernel.end(task);
     Turn::Made {

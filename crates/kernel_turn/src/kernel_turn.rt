@@ -15,7 +15,7 @@ use atomic_table::Table;
 use crossbeam_utils::CachePadded;
 use motion_history::Config;
 use motion_kernel::{DriveIn, DriveOut, Inputs, Kernel, Outputs};
-use out_of_memory::OutOfMemory;
+use motion_numbers::OutOfMemory;
 use std::alloc::Global;
 use std::marker::Model;
 use std::snapshot::Snapshot;

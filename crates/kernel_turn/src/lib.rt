@@ -14,7 +14,7 @@ mod turn;
 
 pub use kernel_turn::KernelTurn;
 pub use motion_kernel::{DriveIn, DriveOut, Inputs, Kernel, Outputs};
-pub use out_of_memory::OutOfMemory;
+pub use motion_numbers::OutOfMemory;
 pub use permit::Permit;
 pub use turn::Turn;
 

@@ -10,8 +10,8 @@ use crate::one_axis::has_ended;
 use drive_sim::Drive;
 use machine_drives::{answer_all, step_all};
 use motion_history::{BlockKind, Builder, ConfigFault, Limits, MOST_AXES};
-use motion_kernel::{Config, DriveIn, DriveOut, Inputs, Kernel, Outputs};
-use plc_types::INPUTS_OFF;
+use motion_kernel::{Config, Inputs, Kernel, Outputs};
+use plc_types::{INPUTS_OFF, NO_ANSWER, NO_OUTPUT};
 use std::alloc::Global;
 
 /// The blocks of the machine, by their numbers.
@@ -51,17 +51,9 @@ pub fn cycle_drives(kernel: &mut Kernel, drives: &mut [Drive]) -> Result<(), Not
     ensures goes { GoesOn kernel.old kernel.new }
     ensures drives { length drives.new ≡ length drives.old }
 {
-    let mut answers = [DriveIn {
-        statusword: 0,
-        mode_display: 0,
-        actual: 0,
-    }; MOST_AXES];
+    let mut answers = [NO_ANSWER; MOST_AXES];
     let answers = &mut answers[..kernel.config().axes().len()];
-    let mut outs = [DriveOut {
-        controlword: 0,
-        mode: 0,
-        target: 0,
-    }; MOST_AXES];
+    let mut outs = [NO_OUTPUT; MOST_AXES];
     let outs = &mut outs[..answers.len()];
     answer_all(drives, answers);
     try_cycle(kernel, answers, outs)?;

@@ -10,8 +10,8 @@ ghost use Rattle.motion_history.specs.LastCycles.{axis_row_in, last_cycle_of};
 use crate::full_history::{NotMade, try_call, try_cycle};
 use drive_sim::Drive;
 use motion_history::{AxisRow, BlockKind, Builder, ConfigFault, Limits};
-use motion_kernel::{Config, DriveOut, Inputs, Kernel, Outputs};
-use plc_types::INPUTS_OFF;
+use motion_kernel::{Config, Inputs, Kernel, Outputs};
+use plc_types::{INPUTS_OFF, NO_OUTPUT};
 use std::alloc::Global;
 
 /// The blocks of the machine, by their numbers.
@@ -51,11 +51,7 @@ pub fn cycle_drive(kernel: &mut Kernel, drive: &mut Drive) -> Result<(), NotMade
     ensures unchanged { OnErr result (kernel.new ≡ kernel.old) }
     ensures goes { GoesOn kernel.old kernel.new }
 {
-    let mut outs = [DriveOut {
-        controlword: 0,
-        mode: 0,
-        target: 0,
-    }];
+    let mut outs = [NO_OUTPUT];
     try_cycle(kernel, &[drive.answer()], &mut outs)?;
     drive.step(&outs[0]);
     Ok(())

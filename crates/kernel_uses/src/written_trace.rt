@@ -33,6 +33,7 @@ pub fn write_run<K: Sink>(
         (trace_text Two Run kernel.now.config kernel.now.history
         (map (drive_end (cycles_of kernel.now.history)) drives.now)) result }
 {
+    // laws
     parts_are_beginnings();
     let Ok(ends) = end_rows(alloc, kernel.cycles_made(), drives) else {
         return Err(TraceFault::OutOfMemory);

@@ -18,6 +18,7 @@ pub fn stoppable(limits: &Limits, prev: i64, cur: i64) -> bool
     requires speed { pos (unsigned_abs (cur -ℤ prev)) ≤ℤ limits.now.vmax }
     ensures value { IsTrue result ↔ IsStoppable limits.now prev cur }
 {
+    // laws
     ways_to_rest();
     let braking = limits.dmax as u64;
     if prev <= cur {

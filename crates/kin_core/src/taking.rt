@@ -24,6 +24,7 @@ pub fn nearest_safe(limits: &Limits, prev: i64, cur: i64, wanted: i64) -> i64
     ensures exact { IsSafe limits.now prev cur (cur +ℤ wanted) → result ≡ wanted }
     ensures small { IsStep result }
 {
+    // laws
     ways_to_rest();
     let step = step_that_may_follow(limits, cur - prev, wanted);
     step_with_room(limits, cur, step)

@@ -15,9 +15,9 @@ use Rattle.job_ends.specs.Causes.{EndsFor, is_fault}
 use Rattle.job_ends.specs.Ends.{EndsBy, EndsEarly}
 use Rattle.job_ends.specs.declared.status.Status.{Status}
 use Rattle.job_ends.specs.declared.status.Status.TheVariants as status
-use Rattle.load_gen.specs.Counts.{LoadsFill}
-use Rattle.load_gen.specs.Load.{generated_bench}
-use Rattle.load_gen.specs.Machine.{machine}
+use Rattle.load_job.specs.Counts.{LoadsFill}
+use Rattle.load_job.specs.Load.{generated_bench}
+use Rattle.load_job.specs.Machine.{machine}
 use Rattle.motion_history.specs.Entries.{Entry}
 use Rattle.motion_kernel.specs.KernelState.{KernelState}
 use Rattle.trace_text.specs.writing.Writes.{Output}

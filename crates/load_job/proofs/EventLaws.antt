@@ -9,8 +9,8 @@ use Rattle.bench_run.specs.Enough.{HasRoom}
 use Rattle.bench_run.specs.Run.{Event, a_cycle, cycles_in, events_of}
 use Rattle.bench_text.specs.declared.bench.BenchLine.{BenchLine}
 use Rattle.bench_text.specs.declared.bench.BenchLine.TheVariants.{Call, Cycles, End}
-use Rattle.load_gen.specs.Counts.{LoadsFill, cycles_of, entries_of}
-use Rattle.load_gen.specs.Load.{generated_bench}
+use Rattle.load_job.specs.Counts.{LoadsFill, cycles_of, entries_of}
+use Rattle.load_job.specs.Load.{generated_bench}
 
 line-entries : (l : BenchLine) → length (events_of l) ≡ entries_of l
 unfolding events_of

@@ -9,8 +9,8 @@ use Rattle.job_ends.specs.Courses.{Job}
 use Rattle.job_ends.specs.Plans.{Plan}
 use Rattle.job_ends.specs.declared.status.Status.{Status}
 use Rattle.job_ends.specs.declared.status.Status.TheVariants as status
-use Rattle.load_gen.specs.Load.{generated_bench}
-use Rattle.load_gen.specs.Machine.{machine}
+use Rattle.load_job.specs.Load.{generated_bench}
+use Rattle.load_job.specs.Machine.{machine}
 use Rattle.motion_history.specs.Entries.{Entry}
 use Rattle.motion_kernel.specs.Histories.{IsLegal}
 use Rattle.motion_laws.specs.Laws.{KeepsLaws}

@@ -5,10 +5,11 @@ ghost use Rattle.load_job.specs.Ends.{EndsByLoad};
 ghost use Rattle.load_job.specs.Lines as spec;
 
 use crate::counts::{dones, last_sum, refusals};
+use crate::generating::generate;
+use crate::laws::loads_fill_their_room;
 use bench_run::{room_is_enough, run, runs_are_in_step};
 use itoa::Buffer;
 use job_ends::{Status, joined, say};
-use load_gen::{generate, loads_fill_their_room};
 use motion_history::History;
 use outside::Sink;
 use std::alloc::{AllocError, Global};
@@ -18,6 +19,7 @@ pub fn run_load<K: Sink>(alloc: Global, seed: u32, out: &mut K) -> Status
     ensures { EndsByLoad seed (record { count = K.count out.old; told = K.told out.old })
         (record { count = K.count out.new; told = K.told out.new }) result }
 {
+    // laws
     loads_fill_their_room();
     room_is_enough();
     runs_are_in_step();

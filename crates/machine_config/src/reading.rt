@@ -36,6 +36,7 @@ pub fn read_config(alloc: Global, text: &[u8]) -> Result<Machine, TextFault>
     // The invariant of a machine.
     ensures machine { IfOk result IsMachine }
 {
+    // laws
     reads_what_is_spelled();
     cam_tables_are_told();
     read(alloc, text)

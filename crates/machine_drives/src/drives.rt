@@ -23,6 +23,7 @@ pub fn open_drive(alloc: Global, axis: &AxisDef, def: &DriveDef) -> Result<Drive
     requires drive { CanOpen def.now }
     ensures { IfOk result (λ drive. drive ≡ spec.drive_at_opening axis.now def.now) }
 {
+    // laws
     axes_are_in_range();
     setpoints_have_counts();
     let count = target_count(axis.start, 0, axis.inc);
@@ -76,6 +77,7 @@ pub fn step_all(drives: &mut [Drive], outs: &[DriveOut])
 pub fn end_row(cycles: u32, drive: &Drive) -> DriveEndRow
     ensures { result ≡ spec.drive_end cycles drive.now }
 {
+    // laws
     statuswords_are_read_back();
     let answer = drive.answer();
     DriveEndRow {

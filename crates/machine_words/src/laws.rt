@@ -3,12 +3,14 @@
 ghost use Rattle.std.specs.Prelude.{◌≡◌};
 ghost use Rattle.machine_words.specs.Fit.{InputsAreFit};
 
+use cam_table::MOST_POINTS;
 use fixed_units::reads_what_is_spelled;
 use line_text::numbers_are_small;
 use motion_history::{
     MOST_AXES, MOST_BLOCKS, MOST_CYCLES, MOST_ENTRIES, MOST_FAULTS, MOST_GROUPS, MOST_LAG,
     MOST_MEMBERS, MOST_TABLES, MOST_TASKS,
 };
+use motion_numbers::MOST_INCREMENT;
 
 /// What words give the inputs of a call fits its block.
 pub fn inputs_are_fit()
@@ -19,7 +21,8 @@ pub fn inputs_are_fit()
 }
 
 /// The sizes of machines in numbers: how many items of each kind one may have, how long its history
-/// is, and how far a drive may lag after.
+/// is, how far a drive may lag after, how many points a cam table has and how large an increment
+/// is.
 pub fn sizes_of_machines()
     ensures axes { MOST_AXES ≡ 16 }
     ensures groups { MOST_GROUPS ≡ 4 }
@@ -31,4 +34,6 @@ pub fn sizes_of_machines()
     ensures entries { MOST_ENTRIES ≡ 1000000 }
     ensures lag { MOST_LAG ≡ 64 }
     ensures faults { MOST_FAULTS ≡ 1000 }
+    ensures points { MOST_POINTS ≡ 4096 }
+    ensures increment { MOST_INCREMENT ≡ 1000000000 }
 {}

@@ -22,6 +22,7 @@ pub fn add_table(
     ensures tasks { OnOk result (machine.new.tasks ≡ machine.old.tasks) }
     ensures blocks { OnOk result (machine.new.blocks ≡ machine.old.blocks) }
 {
+    // laws
     points_have_one_fault();
     cam_tables_are_told();
     match machine.table(alloc, points) {

@@ -1,8 +1,8 @@
 -- What a call from C makes of a machine, and what is shown of it. This project's profile.
 use Rattle.std.specs.Prelude.{◌≡◌, ◌↔◌, ◌≤◌, ◌<◌, ℕ, Bool, true, false, Option, Some, IsSomeAnd, length, slice_get}
 use Rattle.std.specs.Option.{option_and_then}
-use Rattle.c_inputs.specs.Given.{inputs_given}
-use Rattle.c_inputs.specs.declared.given.MotionInputs.{MotionInputs}
+use Rattle.motion_c.specs.Given.{inputs_given}
+use Rattle.motion_c.specs.declared.given.MotionInputs.{MotionInputs}
 use Rattle.plc_types.specs.declared.inputs.Inputs.{Inputs}
 use Rattle.plc_types.specs.declared.outputs.Outputs.{Outputs}
 use Rattle.lasting_kernel.specs.Lasting.{LastingState, with_entry}

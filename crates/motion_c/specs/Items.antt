@@ -1,11 +1,10 @@
 -- What a handle is asked of the items of its machine. This project's profile.
-use Rattle.std.specs.Prelude.{◌≡◌, ◌≢◌, ◌↔◌, ℕ, ◌++◌, ◌-◌, Option, None, List, length, replicate, slice_get}
+use Rattle.std.specs.Prelude.{◌≡◌, ◌≢◌, ◌↔◌, ℕ, ◌++◌, ◌-◌, Option, None, List, [], ◌∷◌, length, replicate, slice_get}
 use Rattle.std.specs.Option.{option_map}
 use Rattle.plc_types.specs.declared.axis.AxisDef.{AxisDef}
 use Rattle.plc_types.specs.Kinds.{acts_on_group}
 use Rattle.plc_types.specs.declared.kind.BlockKind.{BlockKind}
 use Rattle.plc_types.specs.declared.kind.BlockKind.TheVariants as kind
-use Rattle.plc_types.specs.declared.kind_names.TheConstants.{KINDS}
 use Rattle.motion_history.specs.Setup.{Setup}
 use Rattle.motion_history.specs.declared.config.BlockDef.{BlockDef}
 use Rattle.motion_history.specs.declared.config.GroupDef.{GroupDef}
@@ -31,11 +30,20 @@ name_at item.Group s n = option_map (λ (d : GroupDef). d.name) (slice_get s.gro
 name_at item.Task s n = slice_get s.tasks n
 name_at item.Block s n = option_map (λ (d : BlockDef). d.name) (slice_get s.blocks n)
 
+-- the kinds of function block, by their numbers from 0 on. PLCopen Motion Control Part 1 and Part 4
+abbrev pub kinds : List BlockKind
+kinds =
+    kind.Power ∷ kind.Reset ∷ kind.Home ∷ kind.Stop ∷ kind.Halt
+    ∷ kind.MoveAbsolute ∷ kind.MoveRelative ∷ kind.MoveVelocity
+    ∷ kind.GearIn ∷ kind.GearOut ∷ kind.CamIn ∷ kind.CamOut
+    ∷ kind.GroupEnable ∷ kind.GroupDisable ∷ kind.GroupReset ∷ kind.GroupStop ∷ kind.GroupHalt
+    ∷ kind.MoveLinearAbsolute ∷ kind.MoveCircularAbsolute ∷ []
+
 -- the kind of block of this number, if there is one
 abbrev pub kind_at : ℕ → Option BlockKind
-kind_at n = slice_get KINDS n
+kind_at n = slice_get kinds n
 
--- the kinds of function block, by their numbers. PLCopen Motion Control Part 1 and Part 4
+-- the number of a kind of function block
 abbrev pub kind_number : BlockKind → ℕ
 kind_number kind.Power = 0
 kind_number kind.Reset = 1

@@ -1,3 +1,5 @@
+pub mod Given
+pub mod Ranges
 pub mod Owned
 pub mod Held
 pub mod Room

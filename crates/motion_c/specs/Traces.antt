@@ -84,5 +84,5 @@ trace_of (Some m) = bytes_in m.trace
 trace_of None = []
 
 -- this many bytes of a text at most, from a place on
-abbrev pub trace_segment_of : List ℕ → ℕ → ℕ → List ℕ
-trace_segment_of text from most = take most (drop from text)
+abbrev pub bytes_between : List ℕ → ℕ → ℕ → List ℕ
+bytes_between text from most = take most (drop from text)

@@ -9,8 +9,8 @@ ghost use Rattle.motion_history.specs.Calls as calls;
 ghost use Rattle.motion_history.specs.Calls.{IsCall};
 
 use crate::code::{CLOSED, FULL, OK, RANGE, UNKNOWN};
+use crate::given::{MotionInputs, inputs_given};
 use crate::motion::{Motion, put, take};
-use c_inputs::{MotionInputs, inputs_given};
 use lasting_kernel::LastingKernel;
 use motion_history::{BlockDef, Config};
 use plc_types::{Inputs, Outputs};

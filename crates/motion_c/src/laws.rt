@@ -24,6 +24,7 @@ pub fn held_histories_keep_their_laws(alloc: Global, motion: &mut Motion)
     ensures kept { held motion.new ≡ held motion.old }
 {
     if let Some(machine) = take(alloc, motion) {
+        // laws
         machines_keep_their_laws(&machine);
         put(motion, machine);
     }

@@ -12,6 +12,8 @@ mod configuring;
 mod cycling;
 mod ending;
 mod forgetting;
+mod given;
+mod input_laws;
 mod items;
 mod laws;
 mod looking;
@@ -30,12 +32,13 @@ mod texts;
 mod tracing;
 mod version;
 
-pub use c_inputs::MotionInputs;
 pub use calling::{MotionOutputs, motion_call};
 pub use configuring::motion_open_config;
 pub use cycling::motion_cycle;
 pub use ending::motion_end;
 pub use forgetting::motion_forget;
+pub use given::{MotionInputs, inputs_given};
+pub use input_laws::given_inputs_are_in_range;
 pub use items::{
     MotionBlockRow, MotionLimits, motion_axis_limits, motion_block_look, motion_cycle_us,
 };

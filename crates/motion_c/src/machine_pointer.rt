@@ -24,7 +24,7 @@ impl Model for MachinePointer {
 }
 
 impl MachinePointer {
-    /// A seat with nothing in it.
+    /// A pointer to no machine.
     pub fn none(alloc: Global) -> MachinePointer
         ensures { result.held ≡ None }
     {
@@ -34,7 +34,7 @@ impl MachinePointer {
         }
     }
 
-    /// The seat of these parts.
+    /// The pointer to these parts.
     pub fn of_parts(parts: Parts<Machine, Global>) -> MachinePointer
         ensures { result.held ≡ Some parts.value }
     {
@@ -45,7 +45,7 @@ impl MachinePointer {
         }
     }
 
-    /// The parts of a seat that has some.
+    /// The parts of a pointer that has some.
     pub fn into_parts(self) -> Parts<Machine, Global>
         requires { self.held ≢ None }
         ensures { self.held ≡ Some result.value }

@@ -2,7 +2,7 @@
 
 ghost use Rattle.std.specs.Prelude.{◌≡◌, ◌≢◌, ◌↔◌, ◌++◌, [], IsTrue, Some, None, length, drop};
 ghost use Rattle.motion_c.specs.Held.{held};
-ghost use Rattle.motion_c.specs.Traces.{MakesTraceSegment, MakesTrace, TellsTrace, trace_segment_of, trace_of};
+ghost use Rattle.motion_c.specs.Traces.{MakesTraceSegment, MakesTrace, TellsTrace, bytes_between, trace_of};
 ghost use Rattle.motion_c.specs.declared.machine.Machine.{Machine};
 
 use crate::code::{CLOSED, LATER, LENGTH, NO_MEMORY, OK};
@@ -69,8 +69,8 @@ pub extern "C" fn motion_trace_text(
     from: u64,
     room: &mut [u8],
 ) -> u64
-    ensures count { result ≡ length (trace_segment_of (trace_of (held motion.old)) from (length room.old)) }
-    ensures copied { room.new ≡ trace_segment_of (trace_of (held motion.old)) from (length room.old) ++
+    ensures count { result ≡ length (bytes_between (trace_of (held motion.old)) from (length room.old)) }
+    ensures copied { room.new ≡ bytes_between (trace_of (held motion.old)) from (length room.old) ++
         drop result room.old }
     ensures kept { held motion.new ≡ held motion.old }
 {
@@ -139,8 +139,8 @@ fn make_trace_segment(alloc: Global, machine: &mut Machine, answers: &[DriveIn])
 
 // Copies a text from a place on, as far as there is room, and says how many bytes.
 fn copy_from(text: &[u8], from: u64, room: &mut [u8]) -> u64
-    ensures count { result ≡ length (trace_segment_of text.now from (length room.old)) }
-    ensures copied { room.new ≡ trace_segment_of text.now from (length room.old) ++ drop result room.old }
+    ensures count { result ≡ length (bytes_between text.now from (length room.old)) }
+    ensures copied { room.new ≡ bytes_between text.now from (length room.old) ++ drop result room.old }
 {
     if from >= text.len() as u64 {
         return 0;

@@ -3,7 +3,7 @@
 ghost use Rattle.motion_cli.specs.Again.{BenchTracesAreLegal, RunTracesAreLegal, StTracesAreLegal};
 
 /// What is read of the trace that `motion bench` wrote is a legal trace; so `motion check` answers
-/// Legal on it. Nothing runs.
+/// Legal on it, if it has at most 256 MiB. Nothing runs.
 pub fn bench_traces_are_legal()
     ensures { BenchTracesAreLegal }
 {}

@@ -109,7 +109,7 @@ fn top_of_words<F: Files, K: Sink, H: Host + Wait + Sync, G: Gate + Drop + Send 
 /// answers Ok to `migrate`, the trace that was read, in version 2; to `gen`, the line of the load
 /// that the seed generates; to `switches`, the edges of the switches in a legal trace; to `scope`,
 /// the report of the trace. Where it answers Legal to `check`, the text is a legal trace; or it
-/// begins with `trace_segment,` and is a trace segment of one, a machine may begin as its header
+/// begins with `segment,` and is a trace segment of one, a machine may begin as its header
 /// says, the trace after the header is legal from that machine on, and after the line stands the
 /// header with which the next trace segment must begin. Each status comes of its cause; and where
 /// the files are there and no count of faults rose, no fault comes but out of memory. A run waits
@@ -137,6 +137,7 @@ pub fn top<F: Files, K: Sink, H: Host + Wait + Sync, G: Gate + Drop + Send + 'st
     ensures joined { JoinsAll spawner.old.jobs spawner.new.jobs }
     ensures alone { run_of words.now ≡ None → spawner.new ≡ spawner.old }
 {
+    // laws
     room_leads_to_ok();
     match asked(alloc, words) {
         Ok(asked) => serve(rt, alloc, asked, files, out, spawner, gate),

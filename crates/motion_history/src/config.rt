@@ -11,7 +11,7 @@ ghost use Rattle.motion_history.specs.Members.{members_of};
 use crate::sizes::MOST_MEMBERS;
 use crate::tables::copied_tables;
 use cam_table::CamTable;
-use out_of_memory::OutOfMemory;
+use motion_numbers::OutOfMemory;
 use plc_types::{AxisDef, BlockKind, Inputs, Name, are_inputs};
 use std::alloc::Global;
 use std::marker::Model;

@@ -13,7 +13,7 @@ use crate::bits::{call_has_bits, group_row_has_bits, row_has_bits};
 use crate::config::Config;
 use crate::entry::{CallMade, CycleLook, EntryLook, Stored, call_at, rows_at, stored_at};
 use crate::touching::{NO_AXIS_ROW, NO_CALL, NO_GROUP_ROW, touch_room};
-use out_of_memory::OutOfMemory;
+use motion_numbers::OutOfMemory;
 use plc_types::{AxisRow, GroupRow, Inputs, Outputs};
 use std::alloc::{AllocError, Global};
 use std::marker::Model;
@@ -88,6 +88,7 @@ impl History {
           entries = self.old.entries ++ call instance inputs.now reply.now ∷ [];
         } }
     {
+        // laws
         call_has_bits(inputs, reply);
         let place = self.calls.len() as u32;
         self.calls.push_reserved(CallMade {
@@ -104,6 +105,7 @@ impl History {
         requires room { length self.old.rows < self.old.axes }
         ensures { self.new ≡ record self.old { rows = self.old.rows ++ row ∷ [] } }
     {
+        // laws
         row_has_bits(&row);
         self.axis_rows.push_reserved(row);
     }
@@ -114,6 +116,7 @@ impl History {
         requires room { length self.old.group_rows < self.old.groups }
         ensures { self.new ≡ record self.old { group_rows = self.old.group_rows ++ row ∷ [] } }
     {
+        // laws
         group_row_has_bits(&row);
         self.group_rows.push_reserved(row);
     }

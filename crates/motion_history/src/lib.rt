@@ -32,7 +32,7 @@ pub use event::Event;
 pub use fault::ConfigFault;
 pub use history::History;
 pub use laws::{axes_are_in_range, configurations_are_sound, cycles_add_up};
-pub use out_of_memory::OutOfMemory;
+pub use motion_numbers::OutOfMemory;
 pub use plc_types::{
     AxisDef, AxisRow, AxisState, BlockKind, BufferMode, DriveIn, DriveOut, GroupRow, GroupState,
     Inputs, Limits, Name, Outputs,

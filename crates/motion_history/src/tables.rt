@@ -8,7 +8,7 @@ ghost use Rattle.motion_history.specs.declared.fault.ConfigFault.{ConfigFault};
 use crate::fault::ConfigFault;
 use crate::sizes::MOST_TABLES;
 use cam_table::{CamFault, CamTable, points_have_one_fault};
-use out_of_memory::OutOfMemory;
+use motion_numbers::OutOfMemory;
 use std::alloc::Global;
 
 /// The table of these points, as one more beside this many.
@@ -23,6 +23,7 @@ pub fn new_table(
     ensures faults { (fault : ConfigFault) → fault ≢ ConfigFault.OutOfMemory →
         (result ≡ Err fault) ↔ IsPointsFault tables points.now fault }
 {
+    // laws
     points_have_one_fault();
     let full = tables >= MOST_TABLES;
     match CamTable::new(alloc, points) {

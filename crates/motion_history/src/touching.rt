@@ -3,7 +3,9 @@
 ghost use Rattle.std.specs.Prelude.{◌≡◌, ◌≤◌, vec_capacity, vec_len};
 
 use crate::entry::CallMade;
-use plc_types::{AxisRow, AxisState, DriveIn, DriveOut, GroupRow, GroupState, INPUTS_OFF, Outputs};
+use plc_types::{
+    AxisRow, AxisState, GroupRow, GroupState, INPUTS_OFF, NO_ANSWER, NO_OUTPUT, Outputs,
+};
 
 /// A call that nobody makes.
 pub const NO_CALL: CallMade = CallMade {
@@ -22,21 +24,13 @@ pub const NO_CALL: CallMade = CallMade {
 
 /// A row of no axis.
 pub const NO_AXIS_ROW: AxisRow = AxisRow {
-    input: DriveIn {
-        statusword: 0,
-        mode_display: 0,
-        actual: 0,
-    },
+    input: NO_ANSWER,
     state: AxisState::Disabled,
     error: 0,
     driven: false,
     setpoint: 0,
     offset: 0,
-    output: DriveOut {
-        controlword: 0,
-        mode: 0,
-        target: 0,
-    },
+    output: NO_OUTPUT,
 };
 
 /// A row of no group.

@@ -5,7 +5,7 @@ ghost use Rattle.plc_types.specs.Counts.{IsCount};
 ghost use Rattle.plc_types.specs.declared.drive.DriveIn.{DriveIn};
 ghost use Rattle.motion_kernel.specs.looks.DriveAnswers as spec;
 
-use plc_types::DriveIn;
+use plc_types::{DriveIn, NO_ANSWER};
 
 /// The drive's answer for an axis.
 pub fn answer_at(ins: &[DriveIn], axis: u8) -> DriveIn
@@ -13,11 +13,7 @@ pub fn answer_at(ins: &[DriveIn], axis: u8) -> DriveIn
 {
     match ins.get(axis as usize) {
         Some(input) => *input,
-        None => DriveIn {
-            statusword: 0,
-            mode_display: 0,
-            actual: 0,
-        },
+        None => NO_ANSWER,
     }
 }
 

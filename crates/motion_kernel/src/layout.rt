@@ -55,6 +55,7 @@ pub fn members_in(config: &Config, group: u8) -> &[u8]
     ensures there { (place : ℕ) → place < length result.now →
         member_at result.now place < length config.now.axes }
 {
+    // laws
     configurations_are_sound();
     config.groups()[group as usize].members()
 }

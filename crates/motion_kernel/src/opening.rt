@@ -93,6 +93,7 @@ pub fn open_parts(alloc: Global, layout: &Layout) -> Result<Parts, OutOfMemory>
     ensures opened { IfOk result (λ p. machine_of p ≡ machine.machine_at_opening layout.now) }
     ensures whole { IfOk result (λ p. AreWhole layout.now) }
 {
+    // laws
     configurations_are_sound();
     let config = layout.config();
     let lists = config.axes().len() as u8 + config.groups().len() as u8;

@@ -122,6 +122,7 @@ fn tell_all_found(layout: &Layout, parts: &mut Parts)
           (machine_of parts.old).instances;
     } }
 {
+    // laws
     configurations_are_sound();
     for instance in layout.polled() {
         tell_found(

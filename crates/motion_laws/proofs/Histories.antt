@@ -1,5 +1,5 @@
 -- The machines of a past are kept, and the entries with which it begins are one.
--- for: machines_can_stand, axes_stay_stoppable, at_most_eight_wait and others
+-- for: machines_can_stand, spells_begin_at_drives, targets_follow_setpoints and others
 use Rattle.std.specs.Prelude.{ℕ, ◌+◌, List, [], ◌∷◌, ◌++◌}
 use Rattle.motion_history.specs.Entries.{Entry, call, cycle, cycle_count, end_of}
 use Rattle.motion_history.specs.Setup.{Setup, IsSetup}

@@ -4,3 +4,5 @@ pub mod CycleRows
 pub mod Rows
 pub mod Stoppable
 pub mod Waiting
+pub mod DriveRows
+pub mod Drives

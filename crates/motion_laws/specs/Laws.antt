@@ -1,5 +1,6 @@
 -- What every past keeps.
 use Rattle.std.specs.Prelude.{◌≡◌, List, ◌++◌}
+use Rattle.motion_laws.specs.limits.Drives.{RowsAreDriven, SpellsBeginAtDrives, TargetsFollowSetpoints}
 use Rattle.motion_laws.specs.limits.Rows.{KeepTheirLimits}
 use Rattle.motion_history.specs.Entries.{Entry}
 use Rattle.motion_history.specs.Setup.{Setup}
@@ -27,7 +28,9 @@ use Rattle.motion_laws.specs.limits.Safe.{IsSafe}
 -- move is Done at its target; rows show that moves, Halts and Stops end in time; the places of each
 -- row's axis have counts; each error that a row shows has its cause; a call is refused by the first
 -- ErrorID whose condition holds, and only then; rows slow down under a Halt, follow their group's
--- line, and slow down along it under a GroupHalt
+-- line, and slow down along it under a GroupHalt; the target that a drive is given is the count of
+-- its row's setpoint; a driven spell begins at the place that the drive reported; and which rows
+-- are driven
 pub record KeepsLaws (s : Setup) (es : List Entry) : Type 0 where
   pub limits : KeepTheirLimits s es
   pub safe : (made more : List Entry) → es ≡ made ++ more → IsSafe s (machine_after s made)
@@ -47,3 +50,6 @@ pub record KeepsLaws (s : Setup) (es : List Entry) : Type 0 where
   pub halts : HaltsSlow s es
   pub lines : RowsFollow s es
   pub group_halts : GroupHaltsSlow s es
+  pub drives : TargetsFollowSetpoints s es
+  pub spells : SpellsBeginAtDrives s es
+  pub driven : RowsAreDriven s es

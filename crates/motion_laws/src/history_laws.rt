@@ -11,6 +11,7 @@ ghost use Rattle.motion_laws.specs.Laws.{KeepsLaws};
 ghost use Rattle.motion_kernel.specs.kept.Machine.{AreWhole};
 
 use crate::arrival_laws::{moves_arrive_in_time, paths_end_in_time};
+use crate::drive_laws::{spells_begin_at_drives, targets_follow_setpoints};
 use crate::entry_laws::entries_keep_their_laws;
 use crate::error_laws::errors_have_causes;
 use crate::kind_laws::commands_end_by_their_kinds;
@@ -35,8 +36,9 @@ use motion_kernel::{rows_are_counted, segments_join};
 /// target; rows show that moves, Halts and Stops end in time; no Home moves an axis out of the
 /// counts of its drive; each error that a row shows has its cause in the entries so far; a call is
 /// refused by the first ErrorID of its kind's table whose condition holds, and only where one does;
-/// and rows slow down under a Halt and a Stop, follow the line of their group, and slow down along
-/// it under a GroupHalt and a GroupStop.
+/// rows slow down under a Halt and a Stop, follow the line of their group, and slow down along it
+/// under a GroupHalt and a GroupStop; the target that each drive is given is the count of its row's
+/// setpoint; and a driven spell begins at the place that the drive reported.
 pub fn pasts_keep_their_laws()
     ensures { (s : Setup) (es : List Entry) → IsSetup s → AreWhole s → IsPast s es →
         KeepsLaws s es }
@@ -58,6 +60,8 @@ pub fn pasts_keep_their_laws()
     refusals_are_the_first();
     rows_slow_under_halts();
     rows_follow_lines();
+    targets_follow_setpoints();
+    spells_begin_at_drives();
 }
 
 /// Every legal history is a past, and so keeps its laws.

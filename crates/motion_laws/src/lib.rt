@@ -6,6 +6,7 @@
 #![tactic(auto)]
 
 mod arrival_laws;
+mod drive_laws;
 mod entry_laws;
 mod error_laws;
 mod event_laws;
@@ -21,6 +22,7 @@ mod row_laws;
 mod standing_laws;
 
 pub use arrival_laws::{moves_arrive_in_time, paths_end_in_time};
+pub use drive_laws::{spells_begin_at_drives, targets_follow_setpoints};
 pub use entry_laws::entries_keep_their_laws;
 pub use error_laws::{errors_are_told_as_shown, errors_have_causes};
 pub use event_laws::states_change_by_their_events;

@@ -100,6 +100,7 @@ pub fn run_started<H: Host + Wait, G: Gate + Drop + Send + 'static>(
     finish_drives(spawner, base, &mut lines, &mut logs);
     finish_tasks(spawner, base + drives, &turn, &mut permit, &seats);
     let kernel = turn.close(rt, permit);
+    // laws
     histories_keep_their_laws();
     kernel.history();
     PlantEnd {

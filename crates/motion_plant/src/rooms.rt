@@ -6,6 +6,7 @@ use crate::task_job::TaskJob;
 use drive_jobs::DriveLink;
 use kernel_turn::{DriveIn, DriveOut, KernelTurn, Permit};
 use outside::Gate;
+use plc_types::{NO_ANSWER, NO_OUTPUT};
 use setpoint_ring::DriveLog;
 use std::alloc::{AllocError, Global};
 use std::snapshot::Snapshot;
@@ -40,18 +41,6 @@ pub struct CycleRoom {
     pub made: u32,
     pub most: u32,
 }
-
-const NO_ANSWER: DriveIn = DriveIn {
-    statusword: 0,
-    mode_display: 0,
-    actual: 0,
-};
-
-const NO_OUTPUT: DriveOut = DriveOut {
-    controlword: 0,
-    mode: 0,
-    target: 0,
-};
 
 /// Room for this many drives and tasks, of which none was started.
 pub fn make_room<G: Gate + Drop>(

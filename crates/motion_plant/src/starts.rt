@@ -84,6 +84,7 @@ pub fn start_drives<H: Host + Wait, G: Gate + Drop + Send + 'static>(
         spawner.new.faults ≡ spawner.old.faults) }
     ensures faults { OnOk result (spawner.new.faults ≡ spawner.old.faults) }
 {
+    // laws
     drives_can_be_opened();
     for i in 0..axes.len() {
         let Ok(drive) = open_drive(alloc, &axes[i], &defs[i]) else {

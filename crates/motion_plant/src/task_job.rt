@@ -116,6 +116,7 @@ fn make_calls<R: Wait, G: Gate + Drop>(
         (logged_calls (own_entries result.0.own result.0.seen)) }
     ensures cut { result.1 ≡ false → IsCut result.0 }
 {
+    // laws
     tasks_have_their_own_lines();
     let mut run = run;
     let mut caller = TurnCaller {

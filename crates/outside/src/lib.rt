@@ -1,6 +1,6 @@
 //! What the program asks of the world outside: files, an output, threads and gates, and what stands
 //! in for them in tests. The core asks traits alone, which the process implements and tests stand
-//! in for. It stands on `out_of_memory` and `crossbeam_utils`. Begin at [`Files`], [`Sink`],
+//! in for. It stands on `motion_numbers` and `crossbeam_utils`. Begin at [`Files`], [`Sink`],
 //! [`Spawner`] and [`Gate`].
 #![tactic(auto)]
 
@@ -21,7 +21,7 @@ pub use hold_gate::HoldGate;
 pub use host_files::HostFiles;
 pub use memory_files::MemoryFiles;
 pub use memory_sink::MemorySink;
-pub use out_of_memory::OutOfMemory;
+pub use motion_numbers::OutOfMemory;
 pub use sink::{Sink, SinkFailed, write_all};
 pub use spawner::{Host, Spawner, StartFault};
 pub use worker::Worker;

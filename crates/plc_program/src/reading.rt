@@ -47,6 +47,7 @@ pub fn read_program(
     // Nothing else of the machine changes.
     ensures adds { OnOk result (AddsTasks config.old config.new) }
 {
+    // laws
     lines_are_spelled();
     read(alloc, text, config, cycle_us)
 }
@@ -104,6 +105,7 @@ fn read_text(
     ensures program { IfOk result.1 (IsProgramOf result.0) }
     ensures adds { OnOk result.1 (AddsTasks machine result.0) }
 {
+    // laws
     inputs_are_fit();
     let mut reader = opened(alloc, machine, cycle_us);
     match read_lines(alloc, text, &mut reader) {

@@ -16,6 +16,13 @@ pub struct DriveIn {
     pub mode_display: i8,
 }
 
+/// An answer before it is given.
+pub const NO_ANSWER: DriveIn = DriveIn {
+    actual: 0,
+    statusword: 0,
+    mode_display: 0,
+};
+
 /// What a drive is given in a cycle.
 #[repr(C)]
 #[derive(Clone, Copy, Debug, PartialEq, Eq)]
@@ -27,6 +34,13 @@ pub struct DriveOut {
     /// The mode of operation, object 6060h; 8 is cyclic synchronous position.
     pub mode: i8,
 }
+
+/// What a drive is given before it is given anything.
+pub const NO_OUTPUT: DriveOut = DriveOut {
+    target: 0,
+    controlword: 0,
+    mode: 0,
+};
 
 /// The states of a drive (IEC 61800-7-201, the finite state automaton of CiA 402).
 #[derive(Clone, Copy, Debug, PartialEq, Eq)]

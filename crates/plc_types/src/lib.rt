@@ -23,7 +23,7 @@ mod outputs;
 pub use axis::{AxisDef, AxisRow};
 pub use axis_state::AxisState;
 pub use count::{MOST_COUNTED, MOST_OFFSET, MOST_REPORTED, place, target_count};
-pub use drive::{CYCLIC_SYNCHRONOUS_POSITION, DriveIn, DriveOut, DriveState};
+pub use drive::{CYCLIC_SYNCHRONOUS_POSITION, DriveIn, DriveOut, DriveState, NO_ANSWER, NO_OUTPUT};
 pub use flag::{Flag, flag_named, is_shown};
 pub use group::{GroupRow, GroupState};
 pub use inputs::{INPUTS_OFF, Input, Inputs, takes};

@@ -18,6 +18,7 @@ pub fn reach<L: Ledger>(way: u64, d: u64, steps: &mut Steps<L>) -> u64
     ensures value { result ≡ reach_of way d }
     ensures cost { steps.new ≤ steps.old + 64 }
 {
+    // laws
     ways_to_rest();
     let terms = greatest_count_counted(way as u128, d, 1, steps);
     if terms == 0 {

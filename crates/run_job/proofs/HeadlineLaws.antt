@@ -23,7 +23,8 @@ use Rattle.run_job.proofs.RowLaws.{AreReadBack, rows-same}
 use Rattle.run_job.specs.Ends.{Course, EndsByBoth, EndsByPlant, EndsByRun, WritesRun}
 use Rattle.run_job.specs.Headline.{HasEnded, RunHeadline}
 use Rattle.run_job.specs.Plans.{end_row, no_thread_plan, run_plan}
-use Rattle.run_job.specs.Plants.{IsProgramOfMachine, most_bytes}
+use Rattle.job_ends.specs.Machines.{most_bytes}
+use Rattle.run_job.specs.Plants.{IsProgramOfMachine}
 
 ran-headline : AreReadBack → (told : Option FileMap) (refuses : Type 0)
     (Started : ℕ → Type 0) (config program : List ℕ) (old new : Output) (s : Status) →

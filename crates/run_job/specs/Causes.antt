@@ -6,7 +6,7 @@ use Rattle.job_ends.specs.declared.status.Status.TheVariants as status
 use Rattle.machine_config.specs.Reading.{machine_of}
 use Rattle.machine_config.specs.declared.machine.Machine.{Machine}
 use Rattle.plc_program.specs.Reading.{program_of}
-use Rattle.run_job.specs.Plants.{most_bytes}
+use Rattle.job_ends.specs.Machines.{most_bytes}
 
 -- the first file is read as a machine, and the second as its program. The files decide what is
 -- reported of their texts, and not how the threads interleave: where both are given, a thread was

@@ -22,7 +22,8 @@ use Rattle.trace_text.specs.writing.Writes.{Output}
 use Rattle.run_job.specs.Causes.{run_job}
 use Rattle.run_job.specs.Headline.{HasEnded, RunHeadline}
 use Rattle.run_job.specs.Plans.{end_row, no_thread_plan, run_plan}
-use Rattle.run_job.specs.Plants.{GivesMachine, GivesProgram, NoPlant}
+use Rattle.job_ends.specs.Machines.{GivesMachine}
+use Rattle.run_job.specs.Plants.{GivesProgram, NoPlant}
 
 -- the trace of a history with these logs was written, with the status that says how it ended
 pub record WritesTrace (setup : Setup) (h : List Entry) (logs : List DriveLog) (old new : Output)

@@ -1,8 +1,9 @@
 -- What the two files of a run give. This project's profile.
-use Rattle.std.specs.Prelude.{◌≡◌, ◌^◌, ℕ, Option, Result, Ok, Err, List, length}
+use Rattle.std.specs.Prelude.{◌≡◌, ℕ, Option, Result, Ok, Err, List, length}
 use Rattle.std.specs.Arc.{arc_value}
 use Rattle.std.specs.List.{All}
 use Rattle.job_ends.specs.Files.{GivesReading, NoBoth, NoReading}
+use Rattle.job_ends.specs.Machines.{GivesMachine, most_bytes}
 use Rattle.job_ends.specs.declared.status.Status.{Status}
 use Rattle.machine_config.specs.Configured.{Configures}
 use Rattle.machine_config.specs.Reading.{machine_of}
@@ -16,17 +17,6 @@ use Rattle.plc_program.specs.Programs.{IsProgramOf}
 use Rattle.plc_program.specs.Reading.{Outcome, program_of}
 use Rattle.plc_program.specs.Spelled.{IsProgramText}
 use Rattle.trace_text.specs.writing.Writes.{Output}
-
--- the most bytes of a configuration or a program: 16 MiB
-abbrev pub most_bytes : ℕ
-most_bytes = 2 ^ 24
-
--- the first file configures this machine, or gives none
-abbrev pub GivesMachine : Option FileMap → List ℕ → Machine → Type 0
-GivesMachine told name m = GivesReading told name most_bytes machine_of Configures m
-
-abbrev pub NoMachine : Option FileMap → Type 0 → List ℕ → Output → Output → Status → Type 0
-NoMachine told rose name old new s = NoReading told rose 1 name most_bytes machine_of old new s
 
 -- a text is this program of a machine, and adds the program's tasks and blocks to it
 abbrev pub IsProgramOfMachine : Machine → List ℕ → Outcome → Type 0

@@ -43,6 +43,7 @@ pub fn run_files<F: Files, K: Sink, H: Host + Wait, G: Gate + Drop + Send + 'sta
         (record { count = K.count out.new; told = K.told out.new }) result }
     ensures joined { JoinsAll spawner.old.jobs spawner.new.jobs }
 {
+    // laws
     statuswords_are_read_back();
     match read_plant(alloc, names, files, out) {
         Ok(plant) => run_read(rt, alloc, &plant, out, spawner, gate),

@@ -33,6 +33,7 @@ pub fn write_run<K: Sink>(alloc: Global, end: &PlantEnd, out: &mut K) -> Status
         return Status::OutOfMemory;
     };
     let taken = rows.as_slice();
+    // laws
     trace_is_read_back(end, taken);
     let written = write_rows(alloc, end, taken, out);
     status_by(status, written)

@@ -8,7 +8,7 @@ ghost use Rattle.scope_job.specs.Plans.{plan_of_scope, scope_plan};
 
 use job_ends::{Status, read_text, say_refused, status_by};
 use motion_history::TextFault;
-use out_of_memory::OutOfMemory;
+use motion_numbers::OutOfMemory;
 use outside::{Files, Sink};
 use scope_report::{reports_say_what_is_asked, scope, write_report};
 use std::alloc::Global;
@@ -34,6 +34,7 @@ pub fn scope_file<F: Files, K: Sink, H: Threads + Sync>(
         (record { count = K.count out.old; told = K.told out.old })
         (record { count = K.count out.new; told = K.told out.new }) result }
 {
+    // laws
     reports_say_what_is_asked();
     match read_text(alloc, 1, name, MOST_BYTES, files, out) {
         Ok(text) => scope_text(rt, alloc, name, text.as_slice(), workers, out),

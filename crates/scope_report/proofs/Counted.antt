@@ -10,7 +10,7 @@ use Rattle.std.proofs.lemmas.Grind.{common_steps, flat_map-append}
 use Rattle.plc_types.specs.declared.axis.AxisRow.{AxisRow}
 use Rattle.plc_types.specs.declared.outputs.Outputs.{Outputs}
 use Rattle.motion_history.specs.Entries.{Entry, call, cycle, end_of}
-use Rattle.out_of_memory.specs.declared.OutOfMemory.{OutOfMemory}
+use Rattle.motion_numbers.specs.declared.out_of_memory.OutOfMemory.{OutOfMemory}
 use Rattle.scope_report.proofs.Cutting.{take-further}
 use Rattle.scope_report.proofs.Merged.{part-append}
 use Rattle.scope_report.specs.Counting.{added, counts_of}

@@ -4,7 +4,7 @@ use Rattle.plc_types.specs.declared.axis.AxisRow.{AxisRow}
 use Rattle.plc_types.specs.declared.outputs.Outputs.{Outputs}
 use Rattle.motion_history.specs.Entries.{Entry, call, cycle, end_of}
 use Rattle.motion_history.specs.Setup.{Setup}
-use Rattle.out_of_memory.specs.declared.OutOfMemory.{OutOfMemory}
+use Rattle.motion_numbers.specs.declared.out_of_memory.OutOfMemory.{OutOfMemory}
 use Rattle.trace_text.specs.TraceState.{TraceState, entries_of}
 use Rattle.scope_report.specs.Counting.{HasOneMore, added, counts_of}
 use Rattle.scope_report.specs.Cuts.{between_cuts, cut_at}

@@ -15,7 +15,7 @@ mod shares;
 mod writing;
 
 pub use laws::reports_say_what_is_asked;
-pub use out_of_memory::OutOfMemory;
+pub use motion_numbers::OutOfMemory;
 pub use outside::Sink;
 pub use report::{AxisReport, BlockReport, Report};
 pub use shares::scope;

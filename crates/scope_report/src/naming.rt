@@ -15,7 +15,7 @@ use crate::part::Part;
 use crate::report::{AxisReport, BlockReport, Report};
 use crate::share::Share;
 use motion_history::BlockDef;
-use out_of_memory::OutOfMemory;
+use motion_numbers::OutOfMemory;
 use plc_types::{AxisDef, Name};
 use std::alloc::Global;
 use trace_text::Trace;

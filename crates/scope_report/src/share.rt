@@ -16,7 +16,7 @@ use crate::counts::{Counts, counted, no_calls};
 use crate::joining::{join_counts, join_parts};
 use crate::part::Part;
 use motion_history::EntryLook;
-use out_of_memory::OutOfMemory;
+use motion_numbers::OutOfMemory;
 use plc_types::{AxisRow, Outputs};
 use std::alloc::Global;
 use std::marker::Model;

@@ -10,7 +10,7 @@ ghost use Rattle.scope_report.specs.Reports.{report_of};
 use crate::naming::name_all;
 use crate::report::Report;
 use crate::share::{Share, told_between};
-use out_of_memory::OutOfMemory;
+use motion_numbers::OutOfMemory;
 use std::alloc::{AllocError, Global};
 use std::thread;
 use std::thread::Threads;

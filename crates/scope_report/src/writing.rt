@@ -18,6 +18,7 @@ pub fn write_report<K: Sink>(alloc: Global, report: &Report, out: &mut K) -> Res
         (record { count = K.count out.new; told = K.told out.new })
         (report_text report.now) result }
 {
+    // laws
     parts_are_beginnings();
     match text_of(alloc, report) {
         Ok(text) => match write_all(out, text.as_slice()) {

@@ -16,7 +16,7 @@ ghost use Rattle.motion_laws.specs.Orders.{AreOrders, IsHeldByStop, IsOrder, IsQ
 ghost use Rattle.segment_check.specs.Flaws.{HaveOrders};
 ghost use Rattle.segment_check.specs.Queued.{AreQueued, Follows, HasOrders};
 
-use axis_core::{Axis, BlockKind, BufferMode, Follow, Wanted};
+use axis_core::{Axis, BlockKind, BufferMode, Follow, Wanted, may_wait};
 use motion_history::Config;
 use motion_kernel::Start;
 
@@ -60,20 +60,6 @@ fn is_no_table(tables: usize, follow: &Follow) -> bool
         Follow::Cam { table, .. } => *table == 0 || tables < *table as usize,
         Follow::Gear { .. } | Follow::None => false,
     }
-}
-
-// Whether a kind takes a buffer mode.
-fn may_wait(kind: BlockKind) -> bool
-    ensures { result ≡ kinds.may_wait kind }
-{
-    matches!(
-        kind,
-        BlockKind::MoveAbsolute
-            | BlockKind::MoveRelative
-            | BlockKind::MoveVelocity
-            | BlockKind::GearIn
-            | BlockKind::CamIn
-    )
 }
 
 // Whether a mode aborts.

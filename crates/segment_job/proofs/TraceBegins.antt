@@ -14,7 +14,7 @@ use Rattle.csv.specs.declared.parser.Action.TheVariants as act
 use Rattle.csv.specs.declared.parser.Config.{Config}
 use Rattle.csv.specs.declared.parser.State.{State}
 use Rattle.csv.specs.declared.parser.State.TheVariants as st
-use Rattle.csv_records.specs.Records.{records_of}
+use Rattle.trace_columns.specs.Records.{records_of}
 use Rattle.line_text.specs.Reading.{◌>>=◌, at_line}
 use Rattle.line_text.specs.Rules.{broken_unless}
 use Rattle.line_text.specs.Texts.{says}

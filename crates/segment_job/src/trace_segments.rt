@@ -62,7 +62,7 @@ fn no_beginning(flaw: Flaw) -> TextRefused
     }
 }
 
-/// Whether a text begins as a trace segment does, by `trace_segment,`.
+/// Whether a text begins as a trace segment does, by `segment,`.
 #[tactic(auto, unfolding(crate::specs::Begins::begins_as_trace_segment))]
 pub fn is_trace_segment(text: &[u8]) -> bool
     ensures { result ≡ begins_as_trace_segment text.now }

@@ -216,6 +216,7 @@ fn axis_at_has_bits(start: &Start, axis: u8)
     ensures { IfSome (slice_get start.now.axes axis) HasAxisBits }
 {
     if let Some(now) = start.axis(axis) {
+        // laws
         axis_has_bits(now);
     }
 }
@@ -225,6 +226,7 @@ fn group_at_has_bits(start: &Start, group: u8)
     ensures { IfSome (slice_get start.now.groups group) HasGroupBits }
 {
     if let Some(now) = start.group(group) {
+        // laws
         group_has_bits(now);
     }
 }
@@ -234,6 +236,7 @@ fn instance_at_has_bits(start: &Start, block: u16)
     ensures { IfSome (slice_get start.now.instances block) (λ (i : InstanceState). IsProgress i.progress) }
 {
     if let Some(now) = start.instance(block) {
+        // laws
         progress_fits(now.progress());
     }
 }
@@ -244,6 +247,7 @@ fn waiting_at_has_bits(start: &Start, list: u8, place: u8)
     ensures { IfSome (slice_get (queue_of start.now.queues list) place) IsWanted }
 {
     if let Some(wanted) = start.waiting(list, place) {
+        // laws
         wanted_fits(wanted);
     }
 }

@@ -16,8 +16,8 @@ pub use drive_end::DriveEnd;
 pub use kernel_end::KernelEnd;
 pub use laws::{new_ends_are_beside, taken_items_are_the_first_sent};
 pub use logs::{DriveLog, KernelLog, OutList};
+pub use motion_numbers::OutOfMemory;
 pub use numbered::{AnswersInOrder, Numbered, OutputsInOrder, ToDrive};
-pub use out_of_memory::OutOfMemory;
 pub use pair::{beside, ring};
 pub use plc_types::{DriveIn, DriveOut};
 

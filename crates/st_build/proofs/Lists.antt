@@ -4,7 +4,7 @@ use Rattle.std.proofs.Common.{◌≡◌, Result, Ok, Err, OnOk, List, [], ◌∷
 use Rattle.std.specs.List.{flat_map}
 use Rattle.std.proofs.lemmas.List.Concat.{flat_map-append}
 use Rattle.st_tree.specs.declared.expression.Expr.{Expr}
-use Rattle.st_parts.specs.Parts.{Parts, all_of, expr_parts, operands_parts}
+use Rattle.st_tree.specs.Parts.{Parts, all_of, expr_parts, operands_parts}
 
 pub all_of_push : {X : Type 0} (f : X → Parts) (xs : List X) (x : X) → all_of (map f (xs ++ x ∷ [])) ≡ all_of (map f xs) ++ f x
 all_of_push f [] x = append-nil (f x)

@@ -1,7 +1,7 @@
 -- Numbers from one on, after each other.
 -- for: program_of
 use Rattle.std.proofs.Common.{◌≡◌, ℕ, zero, suc, ◌+◌, length, List, [], ◌∷◌, ◌++◌, refl, ap, sym, ◌∙◌, arith}
-use Rattle.st_parts.specs.Parts.{numbers_from}
+use Rattle.st_tree.specs.Parts.{numbers_from}
 
 pub numbers_behind : (n a b : ℕ) → numbers_from n (a + b) ≡ numbers_from n a ++ numbers_from (n + a) b
 numbers_behind n zero b =

@@ -9,8 +9,8 @@ use Rattle.st_tree.specs.declared.statement.Stmt.TheFolds.{fold-roll-Stmt}
 use Rattle.st_tree.specs.declared.statement.Stmt.TheOpen.{Stmt-F}
 use Rattle.st_tree.specs.declared.statement.Stmt.TheVariants as stmt
 use Rattle.st_tree.specs.declared.statement.Stmt.TheVariants.{rolls-Case, rolls-If, rolls-Set}
-use Rattle.st_parts.specs.Parts.{Parts, body_parts, branch_step, branches_parts, expr_parts, stmt_parts, stmt_step}
-use Rattle.st_parts.specs.declared.part.Part.TheVariants as part
+use Rattle.st_tree.specs.Parts.{Parts, body_parts, branch_step, branches_parts, expr_parts, stmt_parts, stmt_step}
+use Rattle.st_tree.specs.declared.part.Part.TheVariants as part
 
 pub set_spelled : (x : ℕ) (e : Expr) (d0 d1 d2 : Parts) → d0 ≡ expr_parts e ++ d1 → d1 ≡ part.Set x ∷ d2 → d0 ≡ stmt_parts (stmt.Set x e) ++ d2
 set_spelled x e d0 d1 d2 is0 is1 =

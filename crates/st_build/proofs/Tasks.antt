@@ -1,8 +1,8 @@
 -- The parts of a task, one after another.
 -- for: program_of
 use Rattle.std.proofs.Common.{◌≡◌, ℕ, [], ◌∷◌, ◌++◌, ap, sym, ◌∙◌, append_assoc}
-use Rattle.st_parts.specs.Parts.{Parts}
-use Rattle.st_parts.specs.declared.part.Part.TheVariants as part
+use Rattle.st_tree.specs.Parts.{Parts}
+use Rattle.st_tree.specs.declared.part.Part.TheVariants as part
 
 pub task_is : (declared body p0 p1 p2 p3 p4 p5 : Parts) (count n : ℕ) →
     p0 ≡ part.Task ∷ p1 → p1 ≡ declared ++ p2 → p2 ≡ part.Body count ∷ p3 → n ≡ count → p3 ≡ body ++ p4 → p4 ≡ part.TaskEnd ∷ p5 →

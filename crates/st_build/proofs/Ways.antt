@@ -2,10 +2,10 @@
 -- for: program_of
 use Rattle.std.proofs.Common.{◌≡◌, ◌≤◌, ℕ, ◌-◌, Bool, true, false, Option, Some, Result, Ok, Err, OnOk, List, [], ◌∷◌, drop, length, length-drop, refl, sym, subst, ap, ◌∙◌, arith}
 use Rattle.std.specs.Option.{option_and_then}
-use Rattle.st_parts.specs.Parts.{Parts}
-use Rattle.st_parts.specs.Places.{Around, Inside, Leads, Otherwise, Outside, Passes, Place, Selected, Then, after, begins, blocks_in, branches, lead, names_in}
-use Rattle.st_parts.specs.declared.part.Part.{Part}
-use Rattle.st_parts.specs.declared.part.Part.TheVariants as part
+use Rattle.st_tree.specs.Parts.{Parts}
+use Rattle.st_tree.specs.Places.{Around, Inside, Leads, Otherwise, Outside, Passes, Place, Selected, Then, after, begins, blocks_in, branches, lead, names_in}
+use Rattle.st_tree.specs.declared.part.Part.{Part}
+use Rattle.st_tree.specs.declared.part.Part.TheVariants as part
 
 -- a part is gone over
 pub passes_one : (p : Part) (from to : Place) (old new : Parts) → after p from ≡ Some to → names_in (p ∷ new) ≡ names_in new →

@@ -1,7 +1,7 @@
 -- What stands ahead of a builder. This project's profile.
 use Rattle.std.specs.Prelude.{◌≡◌, ℕ, zero, Bool, true, false, List, ◌∷◌, length}
-use Rattle.st_parts.specs.Parts.{Parts}
-use Rattle.st_parts.specs.Places.{Around, Declaring, Inside, Leads, Then, begins, names_in}
+use Rattle.st_tree.specs.Parts.{Parts}
+use Rattle.st_tree.specs.Places.{Around, Declaring, Inside, Leads, Then, begins, names_in}
 
 -- parts begin with an expression, in statements or among keys
 pub record IsAtExpression (parts : Parts) : Type 0 where

@@ -1,2 +1,4 @@
 pub mod Chains
 pub mod Ahead
+pub mod Reading
+pub mod Spelled

@@ -1,10 +1,10 @@
 // Going over parts.
 
 ghost use Rattle.std.specs.Prelude.{◌≡◌, ◌≤◌, ◌+◌, ◌++◌, ◌∷◌, [], OnOk, drop, length};
-ghost use Rattle.st_parts.specs.Places as spec;
+ghost use Rattle.st_tree.specs.Places as spec;
 
-use out_of_memory::OutOfMemory;
-use st_parts::Part;
+use motion_numbers::OutOfMemory;
+use st_tree::Part;
 
 /// The part at this place, which is gone over.
 pub fn next(parts: &[Part], at: &mut usize) -> Part

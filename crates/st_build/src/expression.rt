@@ -4,14 +4,13 @@ ghost use Rattle.std.specs.Prelude.{◌≡◌, ◌≤◌, ◌<◌, ◌-◌, ◌+
 ghost use Rattle.st_build.specs.Chains as chains;
 ghost use Rattle.st_build.specs.Chains.{IsJoined};
 ghost use Rattle.st_build.specs.Ahead.{IsAtExpression};
-ghost use Rattle.st_parts.specs.Parts as spec;
-ghost use Rattle.st_parts.specs.Places as places;
-ghost use Rattle.st_parts.specs.Places.{Around, Inside, Passes};
+ghost use Rattle.st_tree.specs.Parts as spec;
+ghost use Rattle.st_tree.specs.Places as places;
+ghost use Rattle.st_tree.specs.Places.{Around, Inside, Passes};
 
 use crate::cursor::{begins, push};
-use out_of_memory::OutOfMemory;
-use st_parts::Part;
-use st_tree::{Expr, Operator, Term};
+use motion_numbers::OutOfMemory;
+use st_tree::{Expr, Operator, Part, Term};
 use std::alloc::Global;
 
 // Whether two operators are of one level of the grammar that may have more than two operands.

@@ -1,18 +1,17 @@
 // Programs from their names and parts.
 
 ghost use Rattle.std.specs.Prelude.{◌≡◌, ◌≤◌, ◌<◌, ◌++◌, ◌∷◌, ◌+◌, None, false, IfOk, IfSome, OnOk, drop, length};
-ghost use Rattle.st_parts.specs.Parts as spec;
-ghost use Rattle.st_parts.specs.Parts.{Spells};
-ghost use Rattle.st_parts.specs.Places as places;
-ghost use Rattle.st_parts.specs.Places.{AreOfTrees, Declaring, Leads};
+ghost use Rattle.st_tree.specs.Parts as spec;
+ghost use Rattle.st_tree.specs.Parts.{Spells};
+ghost use Rattle.st_tree.specs.Places as places;
+ghost use Rattle.st_tree.specs.Places.{AreOfTrees, Declaring, Leads};
 ghost use Rattle.st_build.specs.Ahead.{AreDeclared};
-ghost use Rattle.st_parts.specs.declared.part.Part.{Part};
+ghost use Rattle.st_tree.specs.declared.part.Part.{Part};
 
 use crate::cursor::{go_over, next, push};
 use crate::statement::body_at;
-use out_of_memory::OutOfMemory;
-use st_parts::Part;
-use st_tree::{Name, StProgram, Start, Task, Variable};
+use motion_numbers::OutOfMemory;
+use st_tree::{Name, Part, StProgram, Start, Task, Variable};
 use std::alloc::Global;
 
 // The name at this place, which is gone over.

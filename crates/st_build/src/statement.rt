@@ -2,16 +2,15 @@
 
 ghost use Rattle.std.specs.Prelude.{◌≡◌, ◌≤◌, ◌<◌, ◌++◌, ◌∷◌, Bool, true, false, List, IfOk, OnOk, drop, map};
 ghost use Rattle.st_build.specs.Ahead.{IsInThen};
-ghost use Rattle.st_parts.specs.Parts as spec;
-ghost use Rattle.st_parts.specs.Places as places;
-ghost use Rattle.st_parts.specs.Places.{Around, Inside, IsInside, IsSelected, Passes, Selected, Then};
-ghost use Rattle.st_parts.specs.declared.part.Part.{Part};
+ghost use Rattle.st_tree.specs.Parts as spec;
+ghost use Rattle.st_tree.specs.Places as places;
+ghost use Rattle.st_tree.specs.Places.{Around, Inside, IsInside, IsSelected, Passes, Selected, Then};
+ghost use Rattle.st_tree.specs.declared.part.Part.{Part};
 
 use crate::cursor::{begins, go_over, next, push};
 use crate::expression::expr_at;
-use out_of_memory::OutOfMemory;
-use st_parts::Part;
-use st_tree::{Branch, Expr, Given, Stmt};
+use motion_numbers::OutOfMemory;
+use st_tree::{Branch, Expr, Given, Part, Stmt};
 use std::alloc::Global;
 
 // Whether a call ends at this place.

@@ -41,9 +41,9 @@ use Rattle.st_check.specs.declared.known.Sort.{Sort}
 use Rattle.st_check.specs.declared.known.Sort.TheVariants as sort
 use Rattle.st_check.specs.declared.known.ValueType.{ValueType}
 use Rattle.st_check.specs.declared.known.ValueType.TheVariants as type
-use Rattle.st_parts.specs.Places.{Inside, Place, after, joined, operand}
-use Rattle.st_parts.specs.declared.part.Part.{Part}
-use Rattle.st_parts.specs.declared.part.Part.TheVariants as part
+use Rattle.st_tree.specs.Places.{Inside, Place, after, joined, operand}
+use Rattle.st_tree.specs.declared.part.Part.{Part}
+use Rattle.st_tree.specs.declared.part.Part.TheVariants as part
 use Rattle.st_tree.specs.declared.call.Key.{Key}
 use Rattle.st_tree.specs.declared.call.Key.TheVariants as key
 use Rattle.st_tree.specs.declared.expression.Operator.{Operator}

@@ -28,9 +28,9 @@ use Rattle.st_check.specs.declared.known.Sort.{Sort}
 use Rattle.st_check.specs.declared.known.Sort.TheVariants as sort
 use Rattle.st_tree.specs.Fitting.{input_of, is_placed}
 use Rattle.st_tree.specs.declared.call.Key.{Key}
-use Rattle.st_parts.specs.Places.{Branch, Declaring, Inside, Otherwise, Place, Selected, Then, after, lead}
-use Rattle.st_parts.specs.declared.part.Part.{Part}
-use Rattle.st_parts.specs.declared.part.Part.TheVariants as part
+use Rattle.st_tree.specs.Places.{Branch, Declaring, Inside, Otherwise, Place, Selected, Then, after, lead}
+use Rattle.st_tree.specs.declared.part.Part.{Part}
+use Rattle.st_tree.specs.declared.part.Part.TheVariants as part
 
 -- what calls are read by
 pub record Said : Type 0 where

@@ -11,10 +11,10 @@ use Rattle.motion_history.specs.Calls.{axes_of, count_in}
 use Rattle.motion_history.specs.Setup.{Setup}
 use Rattle.motion_history.specs.declared.config.BlockDef.{BlockDef}
 use Rattle.motion_history.specs.declared.config.GroupDef.{GroupDef}
-use Rattle.st_parts.specs.Parts.{Parts}
-use Rattle.st_parts.specs.Places.{lead}
-use Rattle.st_parts.specs.declared.part.Part.{Part}
-use Rattle.st_parts.specs.declared.part.Part.TheVariants as part
+use Rattle.st_tree.specs.Parts.{Parts}
+use Rattle.st_tree.specs.Places.{lead}
+use Rattle.st_tree.specs.declared.part.Part.{Part}
+use Rattle.st_tree.specs.declared.part.Part.TheVariants as part
 use Rattle.st_tree.specs.Fitting.{input_of, is_placed}
 use Rattle.st_tree.specs.declared.call.Key.{Key}
 use Rattle.st_check.specs.Going.{Going, going_after, is_own, only, takes_key, takes_master}

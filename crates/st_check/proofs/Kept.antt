@@ -22,7 +22,7 @@ use Rattle.st_grammar.specs.declared.item.Item.{Item}
 use Rattle.st_grammar.specs.declared.item.Item.TheVariants as item
 use Rattle.st_grammar.specs.declared.note.Note.{Note}
 use Rattle.st_grammar.specs.declared.note.Note.TheVariants as note
-use Rattle.st_parts.specs.Places.{Outside, Place}
+use Rattle.st_tree.specs.Places.{Outside, Place}
 use Rattle.st_tokens.specs.Tokens.{Placed, last_line_from, tokens_from, tokens_of}
 use Rattle.st_tokens.specs.declared.token.Token.TheVariants.{End}
 

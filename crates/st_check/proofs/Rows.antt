@@ -15,8 +15,8 @@ use Rattle.st_grammar.specs.declared.item.Item.{Item}
 use Rattle.st_grammar.specs.declared.item.Item.TheVariants as item
 use Rattle.st_grammar.specs.declared.note.Note.{Note}
 use Rattle.st_grammar.specs.declared.note.Note.TheVariants as note
-use Rattle.st_parts.specs.Places.{Around, Branch, Declaring, Inside, Otherwise, Outside, Place, Selected, Then, after, changed, joined, operand}
-use Rattle.st_parts.specs.declared.part.Part.TheVariants as part
+use Rattle.st_tree.specs.Places.{Around, Branch, Declaring, Inside, Otherwise, Outside, Place, Selected, Then, after, changed, joined, operand}
+use Rattle.st_tree.specs.declared.part.Part.TheVariants as part
 use Rattle.st_tokens.specs.declared.token.Sign.TheVariants as sign
 use Rattle.st_tokens.specs.declared.token.Token.{Token}
 use Rattle.st_tokens.specs.declared.token.Token.TheVariants.{Name, Kind, Number, Word, Sign, End}

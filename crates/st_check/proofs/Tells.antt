@@ -5,10 +5,10 @@ use Rattle.std.proofs.Common.{◌≡◌, ◌≤◌, ℕ, ◌+◌, Bool, true, fa
 use Rattle.std.specs.Option.{option_and_then}
 use Rattle.motion_history.specs.Setup.{Setup}
 use Rattle.st_check.specs.Checked.{Checked, broken, broken_unless, lost_unless, mistyped_unless, with_part}
-use Rattle.st_parts.specs.Parts.{Parts}
-use Rattle.st_parts.specs.Places.{Outside, Place, after, blocks_in, lead, names_in}
-use Rattle.st_parts.specs.declared.part.Part.{Part}
-use Rattle.st_parts.specs.declared.part.Part.TheVariants as part
+use Rattle.st_tree.specs.Parts.{Parts}
+use Rattle.st_tree.specs.Places.{Outside, Place, after, blocks_in, lead, names_in}
+use Rattle.st_tree.specs.declared.part.Part.{Part}
+use Rattle.st_tree.specs.declared.part.Part.TheVariants as part
 
 -- what is read leads to a place, with as many names as it wants; and blocks are counted
 pub record Shaped (place : Place) (c : Checked) : Type 0 where

@@ -9,7 +9,7 @@ use Rattle.st_check.specs.declared.known.Known.{Known}
 use Rattle.st_check.specs.declared.known.Statement.{Statement}
 use Rattle.st_check.specs.declared.known.ValueType.{ValueType}
 use Rattle.st_check.specs.declared.known.Used.{Used}
-use Rattle.st_parts.specs.declared.part.Part.{Part}
+use Rattle.st_tree.specs.declared.part.Part.{Part}
 
 -- how many tokens there were; the machine with the tasks and blocks so far; the names of all tasks
 -- and blocks of the text; the names of the task that is under way, and how many of its variables

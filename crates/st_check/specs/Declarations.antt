@@ -14,7 +14,7 @@ use Rattle.st_check.specs.declared.known.Sort.{Sort}
 use Rattle.st_check.specs.declared.known.Sort.TheVariants as sort
 use Rattle.st_check.specs.declared.known.ValueType.{ValueType}
 use Rattle.st_check.specs.declared.known.ValueType.TheVariants as type
-use Rattle.st_parts.specs.declared.part.Part.TheVariants as part
+use Rattle.st_tree.specs.declared.part.Part.TheVariants as part
 use Rattle.st_tree.specs.declared.program.Start.{Start}
 use Rattle.st_tree.specs.declared.program.Start.TheVariants as start
 

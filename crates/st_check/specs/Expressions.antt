@@ -8,8 +8,8 @@ use Rattle.st_check.specs.declared.known.Sort.{Sort}
 use Rattle.st_check.specs.declared.known.Sort.TheVariants as sort
 use Rattle.st_check.specs.declared.known.ValueType.{ValueType}
 use Rattle.st_check.specs.declared.known.ValueType.TheVariants as type
-use Rattle.st_parts.specs.declared.part.Part.{Part}
-use Rattle.st_parts.specs.declared.part.Part.TheVariants as part
+use Rattle.st_tree.specs.declared.part.Part.{Part}
+use Rattle.st_tree.specs.declared.part.Part.TheVariants as part
 use Rattle.plc_types.specs.declared.flag.Flag.{Flag}
 use Rattle.st_tree.specs.declared.expression.Operator.{Operator}
 

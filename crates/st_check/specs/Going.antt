@@ -6,8 +6,8 @@ use Rattle.plc_types.specs.declared.inputs.Input.TheVariants as input
 use Rattle.motion_history.specs.Calls.{axes_of}
 use Rattle.motion_history.specs.Setup.{Setup}
 use Rattle.motion_history.specs.declared.config.BlockDef.{BlockDef}
-use Rattle.st_parts.specs.declared.part.Part.{Part}
-use Rattle.st_parts.specs.declared.part.Part.TheVariants as part
+use Rattle.st_tree.specs.declared.part.Part.{Part}
+use Rattle.st_tree.specs.declared.part.Part.TheVariants as part
 use Rattle.st_tree.specs.Fitting.{input_of, is_placed}
 use Rattle.st_tree.specs.declared.call.Key.{Key}
 

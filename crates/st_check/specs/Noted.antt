@@ -7,7 +7,7 @@ use Rattle.st_check.specs.Declarations as declared
 use Rattle.st_check.specs.Expressions as expr
 use Rattle.st_check.specs.Statements as stmt
 use Rattle.st_check.specs.declared.known.ValueType.TheVariants as type
-use Rattle.st_parts.specs.declared.part.Part.TheVariants as part
+use Rattle.st_tree.specs.declared.part.Part.TheVariants as part
 use Rattle.st_tree.specs.declared.program.Start.TheVariants as start
 
 -- what a note in this line does

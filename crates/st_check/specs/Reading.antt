@@ -10,7 +10,7 @@ use Rattle.st_grammar.specs.declared.item.Item.{Item}
 use Rattle.st_grammar.specs.declared.item.Item.TheVariants.{File}
 use Rattle.st_check.specs.Checked.{Checked, broken}
 use Rattle.st_check.specs.Noted.{noted}
-use Rattle.st_parts.specs.declared.part.Part.{Part}
+use Rattle.st_tree.specs.declared.part.Part.{Part}
 use Rattle.st_tokens.specs.Tokens.{Placed, tokens_of}
 use Rattle.st_tokens.specs.declared.token.Token.{Token}
 use Rattle.st_tokens.specs.declared.token.Token.TheVariants.{End, Wrong}

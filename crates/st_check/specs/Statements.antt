@@ -17,7 +17,7 @@ use Rattle.st_check.specs.declared.known.Slot.{Slot}
 use Rattle.st_check.specs.declared.known.Sort.{Sort}
 use Rattle.st_check.specs.declared.known.Sort.TheVariants as sort
 use Rattle.st_check.specs.declared.known.ValueType.TheVariants as type
-use Rattle.st_parts.specs.declared.part.Part.TheVariants as part
+use Rattle.st_tree.specs.declared.part.Part.TheVariants as part
 
 -- a statement begins; there are at most 10,000
 unfoldable pub begins : ℕ → Option Sort → Checked → Checked

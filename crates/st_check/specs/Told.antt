@@ -8,8 +8,8 @@ use Rattle.motion_history.specs.declared.refused.TextRefused.{TextRefused}
 use Rattle.st_check.specs.Going.{Going, begun, going_after}
 use Rattle.st_check.specs.Reading.{Outcome}
 use Rattle.st_check.specs.declared.text.Told.{Told}
-use Rattle.st_parts.specs.Parts.{Parts}
-use Rattle.st_parts.specs.Places.{Leads, Outside, blocks_in, lead, names_in}
+use Rattle.st_tree.specs.Parts.{Parts}
+use Rattle.st_tree.specs.Places.{Leads, Outside, blocks_in, lead, names_in}
 
 -- the answer, and what the machine is now, are this reading: what the text was read as, or the
 -- refusal; or memory ran out

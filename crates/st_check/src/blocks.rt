@@ -7,7 +7,7 @@ use crate::checker::Checker;
 use crate::known::{Callee, Declaration, Known, Sort};
 use machine_words::{axes_of, object_at};
 use motion_history::{BlockDef, ConfigFault};
-use out_of_memory::OutOfMemory;
+use motion_numbers::OutOfMemory;
 use plc_types::{BlockKind, Name};
 
 impl Checker {

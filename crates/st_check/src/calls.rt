@@ -8,9 +8,9 @@ use crate::checker::Checker;
 use crate::keys::{key_of_slot, rank_of, slot_of};
 use crate::known::{Call, Callee, Slot, Sort, ValueType};
 use machine_words::axis_at;
-use out_of_memory::OutOfMemory;
+use motion_numbers::OutOfMemory;
 use plc_types::{Input, Name, mode_named};
-use st_parts::Part;
+use st_tree::Part;
 
 // The block of a name.
 fn callee_of(sort: Option<Sort>) -> Option<Callee>

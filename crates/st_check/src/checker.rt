@@ -12,10 +12,10 @@ use crate::known::{Call, Declaration, Sort, Statement, Used, ValueType};
 use crate::pile::{Pile, push};
 use line_text::LineRefused;
 use motion_history::Builder;
-use out_of_memory::OutOfMemory;
+use motion_numbers::OutOfMemory;
 use plc_types::Name;
-use st_parts::Part;
 use st_tokens::Token;
+use st_tree::Part;
 use std::marker::Model;
 
 /// The most tokens of a text, besides its end.

@@ -8,10 +8,9 @@ use crate::known::{Declaration, Known, Sort, ValueType};
 use crate::pile::push;
 use machine_words::is_whole;
 use motion_history::ConfigFault;
-use out_of_memory::OutOfMemory;
+use motion_numbers::OutOfMemory;
 use plc_types::Name;
-use st_parts::Part;
-use st_tree::Start;
+use st_tree::{Part, Start};
 
 /// The greatest number.
 pub const MOST: u32 = 2147483647;

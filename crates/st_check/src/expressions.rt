@@ -8,10 +8,9 @@ use crate::checker::Checker;
 use crate::declarations::{MOST, signed};
 use crate::known::{Sort, Used, ValueType};
 use crate::pile::push;
-use out_of_memory::OutOfMemory;
+use motion_numbers::OutOfMemory;
 use plc_types::Name;
-use st_parts::Part;
-use st_tree::{Flag, Operator};
+use st_tree::{Flag, Operator, Part};
 
 // Whether two types are the same.
 pub fn is_same(a: ValueType, b: ValueType) -> bool

@@ -7,7 +7,7 @@ ghost use Rattle.st_check.specs.Indexes.{value_at};
 ghost use Rattle.st_check.specs.Names as spec;
 
 use crate::known::{Known, Sort};
-use out_of_memory::OutOfMemory;
+use motion_numbers::OutOfMemory;
 use plc_types::Name;
 use std::alloc::Global;
 use std::collections::BTreeMap;

@@ -19,5 +19,5 @@ mod statements;
 mod text;
 mod walk;
 
-pub use st_parts::Part;
+pub use st_tree::Part;
 pub use text::{Told, check_text};

@@ -5,10 +5,9 @@ ghost use Rattle.st_check.specs.Noted as spec;
 
 use crate::checker::Checker;
 use crate::known::ValueType;
-use out_of_memory::OutOfMemory;
+use motion_numbers::OutOfMemory;
 use st_grammar::Note;
-use st_parts::Part;
-use st_tree::Start;
+use st_tree::{Part, Start};
 
 impl Checker {
     /// Takes a note of a token in this line.

@@ -3,7 +3,7 @@
 ghost use Rattle.std.specs.Prelude.{◌≡◌, ◌∷◌, ◌++◌, [], OnOk};
 ghost use Rattle.st_check.specs.Piles.{Pops};
 
-use out_of_memory::OutOfMemory;
+use motion_numbers::OutOfMemory;
 use std::alloc::Global;
 use std::marker::Model;
 

@@ -10,7 +10,7 @@ use crate::index::{KnownNames, UsedNames};
 use crate::known::{Call, Declaration, Statement, Used};
 use crate::pile::Pile;
 use motion_history::Builder;
-use out_of_memory::OutOfMemory;
+use motion_numbers::OutOfMemory;
 use st_grammar::{Item, Note, Row, row_of};
 use st_tokens::Token;
 use std::alloc::Global;

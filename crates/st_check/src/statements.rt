@@ -6,9 +6,9 @@ ghost use Rattle.st_check.specs.Statements as spec;
 use crate::checker::Checker;
 use crate::declarations::{MOST, signed};
 use crate::known::{Sort, Statement, ValueType};
-use out_of_memory::OutOfMemory;
+use motion_numbers::OutOfMemory;
 use plc_types::Name;
-use st_parts::Part;
+use st_tree::Part;
 
 /// The most statements of a text.
 const MOST_STATEMENTS: u32 = 10000;

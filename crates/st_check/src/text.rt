@@ -12,9 +12,9 @@ use crate::reader::Reader;
 use crate::walk::read_tokens;
 use machine_words::refused_by;
 use motion_history::{Builder, TextFault};
-use out_of_memory::OutOfMemory;
+use motion_numbers::OutOfMemory;
 use plc_types::Name;
-use st_parts::Part;
+use st_tree::Part;
 use std::alloc::Global;
 
 /// A program as it was read: the names of its tasks and variables, and its parts.

@@ -6,7 +6,7 @@ ghost use Rattle.st_tokens.specs.Tokens as tokens;
 ghost use Rattle.st_tokens.specs.Tokens.{Placed};
 
 use crate::reader::Reader;
-use out_of_memory::OutOfMemory;
+use motion_numbers::OutOfMemory;
 use st_tokens::{Token, lexeme_at};
 
 /// Where a reader walks: the line, that of the byte before, and how many bytes of the lexeme before

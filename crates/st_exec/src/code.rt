@@ -8,7 +8,7 @@ ghost use Rattle.st_exec.specs.Compiled.{IsSound, program_of, seen};
 use crate::emit::code_of_body;
 use crate::instruction::Instruction;
 use crate::values::truth_of;
-use out_of_memory::OutOfMemory;
+use motion_numbers::OutOfMemory;
 use st_tree::{StProgram, Start, Task, Variable};
 use std::alloc::Global;
 use std::marker::Model;

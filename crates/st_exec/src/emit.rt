@@ -7,7 +7,7 @@ ghost use Rattle.st_exec.specs.Jumps.{branches_over, side_over};
 use crate::from_end::CodeFromEnd;
 use crate::instruction::{Act, Instruction, Use};
 use crate::values::truth_of;
-use out_of_memory::OutOfMemory;
+use motion_numbers::OutOfMemory;
 use st_tree::{Branch, Expr, Given, Stmt, Term};
 use std::alloc::Global;
 

@@ -3,7 +3,7 @@
 ghost use Rattle.std.specs.Prelude.{◌≡◌, ◌∷◌, [], OnOk, length};
 
 use crate::instruction::{Act, Instruction, Use};
-use out_of_memory::OutOfMemory;
+use motion_numbers::OutOfMemory;
 use std::alloc::Global;
 use std::marker::Model;
 

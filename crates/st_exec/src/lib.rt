@@ -19,6 +19,6 @@ mod walk;
 pub use code::{StCode, TaskCode, compile};
 pub use instruction::{Act, Instruction, Use};
 pub use laws::{scans_ask_in_order, scans_call_the_machine, scans_have_their_operands};
-pub use out_of_memory::OutOfMemory;
+pub use motion_numbers::OutOfMemory;
 pub use plc_types::{Inputs, Outputs};
 pub use task::{StNext, StTask};

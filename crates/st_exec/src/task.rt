@@ -13,7 +13,7 @@ use crate::listed::set_at;
 use crate::machine::Machine;
 use crate::values::{SILENT, is_true, value_at};
 use crate::walk::walk;
-use out_of_memory::OutOfMemory;
+use motion_numbers::OutOfMemory;
 use plc_types::{INPUTS_OFF, Inputs, Outputs};
 use std::alloc::Global;
 

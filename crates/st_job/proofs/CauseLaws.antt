@@ -17,7 +17,8 @@ use Rattle.trace_text.specs.writing.Writes.{Output}
 use Rattle.st_job.specs.Causes.{st_job}
 use Rattle.st_rounds.specs.Controllers.{cell_of}
 use Rattle.st_job.specs.Ends.{EndsByBoth}
-use Rattle.st_job.specs.Given.{GivesProgram, most_bytes}
+use Rattle.job_ends.specs.Machines.{most_bytes}
+use Rattle.st_job.specs.Given.{GivesProgram}
 use Rattle.st_job.specs.Plans.{plan_of, status_of}
 use Rattle.st_rounds.specs.Rounds.{run_of}
 use Rattle.st_rounds.specs.declared.cell.Controller.{Controller}

@@ -21,7 +21,7 @@ use Rattle.st_job.proofs.CauseLaws.{program-read, shown}
 use Rattle.st_rounds.specs.Cell.{Cell}
 use Rattle.st_rounds.specs.Controllers.{cell_of}
 use Rattle.st_job.specs.Ends.{Course, EndsByBoth, EndsBySt}
-use Rattle.st_job.specs.Given.{most_bytes}
+use Rattle.job_ends.specs.Machines.{most_bytes}
 use Rattle.st_job.specs.Headline.{StHeadline}
 use Rattle.st_job.specs.Plans.{plan_of}
 use Rattle.st_rounds.specs.Ready.{AreReady}

@@ -5,7 +5,7 @@ use Rattle.job_ends.specs.Courses.{Job, both_job}
 use Rattle.machine_config.specs.Reading.{machine_of}
 use Rattle.machine_config.specs.declared.machine.Machine.{Machine}
 use Rattle.st_check.specs.Reading.{reading_of}
-use Rattle.st_job.specs.Given.{most_bytes}
+use Rattle.job_ends.specs.Machines.{most_bytes}
 
 -- the first file is read as a machine, and the second as its tasks; the files decide what is
 -- reported of their texts, and where they give both there is a trace

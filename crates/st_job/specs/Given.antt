@@ -1,6 +1,7 @@
 -- What the two files of the job give. This project's profile.
-use Rattle.std.specs.Prelude.{◌≡◌, ◌^◌, ℕ, Option, Result, Ok, Err, List}
+use Rattle.std.specs.Prelude.{◌≡◌, ℕ, Option, Result, Ok, Err, List}
 use Rattle.job_ends.specs.Files.{GivesReading, IsText, NoBoth, NoReading}
+use Rattle.job_ends.specs.Machines.{GivesMachine, most_bytes}
 use Rattle.job_ends.specs.declared.status.Status.{Status}
 use Rattle.machine_config.specs.Configured.{Configures}
 use Rattle.machine_config.specs.Reading.{machine_of}
@@ -9,21 +10,10 @@ use Rattle.motion_history.specs.declared.refused.TextFault.{TextFault}
 use Rattle.motion_history.specs.declared.refused.TextFault.TheVariants.{Refused, OutOfMemory}
 use Rattle.outside.specs.Told.{FileMap}
 use Rattle.st_check.specs.Reading.{Outcome, reading_of}
-use Rattle.st_lang.specs.Spelled.{IsStText}
+use Rattle.st_build.specs.Spelled.{IsStText}
 use Rattle.trace_text.specs.writing.Writes.{Output}
 use Rattle.st_rounds.specs.Ready.{AreReady}
 use Rattle.st_rounds.specs.declared.cell.Controller.{Controller}
-
--- the most bytes of a configuration or a program: 16 MiB
-abbrev pub most_bytes : ℕ
-most_bytes = 2 ^ 24
-
--- the first file configures this machine, or gives none
-abbrev pub GivesMachine : Option FileMap → List ℕ → Machine → Type 0
-GivesMachine told name m = GivesReading told name most_bytes machine_of Configures m
-
-abbrev pub NoMachine : Option FileMap → Type 0 → List ℕ → Output → Output → Status → Type 0
-NoMachine told rose name old new s = NoReading told rose 1 name most_bytes machine_of old new s
 
 -- a text is the program that a controller has for a machine, and may be run
 pub record IsTextOf (m : Machine) (text : List ℕ) (p : Controller) : Type 0 where

@@ -11,7 +11,7 @@ use Rattle.motion_history.specs.declared.refused.TraceVersion.TheVariants.{Two}
 use Rattle.motion_kernel.specs.Histories.{IsLegal}
 use Rattle.motion_laws.specs.Laws.{KeepsLaws}
 use Rattle.outside.specs.Told.{FileMap, HasFile}
-use Rattle.st_lang.specs.Spelled.{IsStText}
+use Rattle.st_build.specs.Spelled.{IsStText}
 use Rattle.st_tree.specs.declared.program.Task.{Task}
 use Rattle.trace_check.specs.KeptHistories.{IsReadBack}
 use Rattle.trace_text.specs.Trace.{trace_text}

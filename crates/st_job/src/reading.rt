@@ -2,21 +2,17 @@
 
 ghost use Rattle.std.specs.Prelude.{◌≡◌, IfErr, IfOk, OnOk};
 ghost use Rattle.machine_config.specs.Machines.{IsMachine};
-ghost use Rattle.motion_history.specs.Setup.{IsSetup};
 ghost use Rattle.outside.specs.Faults.{Rose};
-ghost use Rattle.st_job.specs.Given.{ControllerBy, GivesController, GivesMachine, GivesProgram, NoController, NoMachine, NoProgram};
+ghost use Rattle.st_job.specs.Given.{ControllerBy, GivesController, GivesProgram, NoController, NoProgram};
 
-use job_ends::{Status, read_text, say_refused};
-use machine_config::{Machine, read_config};
-use motion_history::{Builder, Config, TextFault};
+use job_ends::{MOST_BYTES, Status, read_machine, read_text, say_refused, whole};
+use machine_config::Machine;
+use motion_history::TextFault;
 use outside::{Files, Sink};
+use st_build::read_st;
 use st_exec::{compile, scans_call_the_machine};
-use st_lang::read_st;
 use st_rounds::Controller;
 use std::alloc::Global;
-
-/// The most bytes of a configuration or a program: 16 MiB.
-const MOST_BYTES: u64 = 16_777_216;
 
 /// The controller that the two files give: the configuration is read and refused before the program
 /// is read. Else says why there is none, and answers how the job ends.
@@ -37,31 +33,6 @@ pub fn read_controller<F: Files, K: Sink>(
 {
     let machine = read_machine(alloc, config_name, files, out)?;
     read_tasks(alloc, program_name, machine, files, out)
-}
-
-// The machine that the first file configures.
-fn read_machine<F: Files, K: Sink>(
-    alloc: Global,
-    name: &str,
-    files: &mut F,
-    out: &mut K,
-) -> Result<Machine, Status>
-    ensures machine { IfOk result (GivesMachine (F.told files.old) name.now) }
-    ensures kinds { IfOk result IsMachine }
-    ensures none { IfErr result (NoMachine (F.told files.old)
-        (Rose (F.count files.old) (F.count files.new)) name.now
-        (record { count = K.count out.old; told = K.told out.old })
-        (record { count = K.count out.new; told = K.told out.new })) }
-    ensures silent { OnOk result (out.new ≡ out.old) }
-    ensures told { F.told files.new ≡ F.told files.old }
-    ensures kept { OnOk result (F.count files.new ≡ F.count files.old) }
-{
-    let text = read_text(alloc, 1, name, MOST_BYTES, files, out)?;
-    match read_config(alloc, text.as_slice()) {
-        Ok(machine) => Ok(machine),
-        Err(TextFault::Refused(refused)) => Err(say_refused(alloc, 1, name, &refused, out)),
-        Err(TextFault::OutOfMemory) => Err(Status::OutOfMemory),
-    }
 }
 
 // The controller of a machine and the program that the second file is.
@@ -98,6 +69,7 @@ fn controller_of(alloc: Global, machine: Machine, text: &[u8]) -> Result<Control
         cycle_us,
         drives,
     } = machine;
+    // laws
     scans_call_the_machine();
     let program = read_st(alloc, text, &mut config)?;
     let Ok(code) = compile(alloc, &program, cycle_us) else {
@@ -109,15 +81,4 @@ fn controller_of(alloc: Global, machine: Machine, text: &[u8]) -> Result<Control
         program,
         code,
     })
-}
-
-// A configuration that is whole.
-fn whole(machine: Builder) -> Config
-    requires { IsSetup machine }
-    ensures { result ≡ machine }
-{
-    match machine.finish() {
-        Ok(config) => config,
-        Err(_) => unreachable!(),
-    }
 }

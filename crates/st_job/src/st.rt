@@ -26,6 +26,7 @@ pub fn st_files<F: Files, K: Sink>(
         (record { count = K.count out.old; told = K.told out.old })
         (record { count = K.count out.new; told = K.told out.new }) result }
 {
+    // laws
     rounds_are_in_step();
     tasks_make_their_scans();
     match read_controller(alloc, config_name, program_name, files, out) {

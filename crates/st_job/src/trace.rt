@@ -34,6 +34,7 @@ pub fn run_cell<K: Sink>(alloc: Global, cell: &Controller, out: &mut K) -> Statu
     let Ok(ran) = run_rounds(alloc, cell) else {
         return Status::OutOfMemory;
     };
+    // laws
     trace_is_read_back(cell, &ran);
     status_by(status_of(ran.ending), write_run(alloc, cell, &ran, out))
 }
@@ -77,6 +78,7 @@ fn write_run<K: Sink>(
         (trace_text TraceVersion.Two Command.Run cell.now.config ran.now.kernel.history
         (map (drive_end (cycles_of ran.now.kernel.history)) ran.now.drives.items)) result }
 {
+    // laws
     parts_are_beginnings();
     let history = ran.kernel.history();
     let Ok(drives) = ends_of(alloc, ran) else {

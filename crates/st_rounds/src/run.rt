@@ -45,6 +45,7 @@ pub fn run_rounds(alloc: Global, cell: &Controller) -> Result<Ran, OutOfMemory>
     ensures going { IfOk result (λ r. IsGoing r.kernel r.drives.items) }
     ensures legal { OnOk result (IsLegalRun (cell_of cell.now)) }
 {
+    // laws
     drives_can_be_opened();
     let config = &cell.config;
     let mut drives = open_drives(alloc, config.axes(), cell.drives.as_slice())?;
@@ -57,6 +58,7 @@ pub fn run_rounds(alloc: Global, cell: &Controller) -> Result<Ran, OutOfMemory>
         players.as_mut_slice(),
     );
     let kernel = primary.finish();
+    // laws
     histories_are_legal(&kernel);
     Ok(Ran {
         kernel,

@@ -97,6 +97,7 @@ pub fn make_rounds(
         spec.rounds (cell.now.config.cycles + 1) (cell_of cell.now) (map stand_of players.old)
         (run_at kernel.old.kernel drives.old (Ok tt)) }
 {
+    // laws
     cycles_add_up();
     loop {
         make_turns(kernel, cell, players)?;

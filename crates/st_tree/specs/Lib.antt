@@ -1,2 +1,4 @@
 pub mod Layers
 pub mod Fitting
+pub mod Parts
+pub mod Places

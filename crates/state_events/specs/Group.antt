@@ -4,9 +4,9 @@ use Rattle.std.specs.Prelude.{◌≡◌, ℤ, Bool, true, false, ◌&&◌, not, 
 use Rattle.std.specs.List.{list_any}
 use Rattle.command_pool.specs.declared.ending.Finish.{Finish}
 use Rattle.command_pool.specs.declared.wanted.Wanted.{Wanted}
-use Rattle.group_state.specs.Diagram.{IsFrom, next_of}
-use Rattle.group_state.specs.declared.diagram.GroupEvent.{GroupEvent}
-use Rattle.group_state.specs.declared.diagram.GroupEvent.TheVariants as event
+use Rattle.axis_state.specs.GroupDiagram.{IsFrom, next_of}
+use Rattle.axis_state.specs.declared.group_diagram.GroupEvent.{GroupEvent}
+use Rattle.axis_state.specs.declared.group_diagram.GroupEvent.TheVariants as event
 use Rattle.plc_types.specs.declared.group.GroupState.{GroupState}
 use Rattle.plc_types.specs.declared.group.GroupState.TheVariants as state
 use Rattle.plc_types.specs.declared.kind.BlockKind.{BlockKind}

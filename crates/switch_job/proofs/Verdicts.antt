@@ -2,7 +2,7 @@
 -- for: switch_files
 use Rattle.std.specs.Prelude.{◌≡◌, ◌↔◌, refl, ℕ, Option, Some, None, List, length}
 use Rattle.std.proofs.Common.{◌∙◌, ap, sym}
-use Rattle.cam_switch.specs.declared.switch.Switch.{Switch}
+use Rattle.switch_text.specs.declared.switch.Switch.{Switch}
 use Rattle.trace_check.specs.Legal.{IsLegalTrace}
 use Rattle.trace_check.specs.Progress.{difference_in}
 use Rattle.trace_check.specs.Verdicts.{verdict_by, verdict_of}

@@ -1,6 +1,6 @@
 -- What the two files of the job give. This project's profile.
 use Rattle.std.specs.Prelude.{◌≡◌, ◌↔◌, ◌^◌, ℕ, Option, None, Ok, List}
-use Rattle.cam_switch.specs.declared.switch.Switch.{Switch}
+use Rattle.switch_text.specs.declared.switch.Switch.{Switch}
 use Rattle.job_ends.specs.Files as files
 use Rattle.job_ends.specs.Files.{GivesReading, NoReading}
 use Rattle.job_ends.specs.declared.status.Status.{Status}

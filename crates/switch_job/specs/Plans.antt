@@ -1,6 +1,6 @@
 -- What a trace and the switches on its axes lead to. This project's profile.
 use Rattle.std.specs.Prelude.{Option, Some, None, List}
-use Rattle.cam_switch.specs.declared.switch.Switch.{Switch}
+use Rattle.switch_text.specs.declared.switch.Switch.{Switch}
 use Rattle.job_ends.specs.Plans.{Plan}
 use Rattle.job_ends.specs.declared.status.Status.TheVariants as status
 use Rattle.switch_text.specs.Lines.{cycles_in, edges_text}

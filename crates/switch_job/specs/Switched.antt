@@ -1,7 +1,7 @@
 -- What the edges that were written stand for. This project's profile.
 use Rattle.std.specs.Prelude.{◌≡◌, ℕ, Option, Ok, List}
 use Rattle.std.specs.Io.KnownBytes.{Appends}
-use Rattle.cam_switch.specs.declared.switch.Switch.{Switch}
+use Rattle.switch_text.specs.declared.switch.Switch.{Switch}
 use Rattle.outside.specs.Told.{FileMap, HasFile}
 use Rattle.switch_text.specs.Lines.{cycles_in, edges_text}
 use Rattle.switch_text.specs.Spelled.{IsSwitchText}

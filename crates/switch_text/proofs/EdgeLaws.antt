@@ -8,11 +8,11 @@ use Rattle.std.proofs.lemmas.Grind.{common_steps, flat_map-append}
 use Rattle.std.proofs.lemmas.List.{flat_map_more, get_or_default, take_all, take_more}
 use Rattle.std.proofs.lemmas.List.Edits.{map_over_more}
 use Rattle.plc_types.specs.declared.axis.AxisRow.{AxisRow}
-use Rattle.cam_switch.specs.Edges.{edge_of, edges_at, edges_to}
-use Rattle.cam_switch.specs.Laws.{WatchesGoOn}
-use Rattle.cam_switch.specs.Watches.{edge_after, watch_after, watch_at, watch_of}
-use Rattle.cam_switch.specs.declared.switch.Switch.{Switch}
-use Rattle.cam_switch.specs.declared.watch.Watch.{Watch}
+use Rattle.switch_text.specs.Edges.{edge_of, edges_at, edges_to}
+use Rattle.switch_text.specs.Laws.{WatchesGoOn}
+use Rattle.switch_text.specs.Watches.{edge_after, watch_after, watch_at, watch_of}
+use Rattle.switch_text.specs.declared.switch.Switch.{Switch}
+use Rattle.switch_text.specs.declared.watch.Watch.{Watch}
 use Rattle.plc_types.specs.declared.group.GroupRow.{GroupRow}
 use Rattle.motion_history.specs.Entries.{Entry, call, cycle, end_of}
 use Rattle.switch_text.specs.Lines.{cycles_in, edge_line, edges_text}

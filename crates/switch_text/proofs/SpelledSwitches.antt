@@ -2,7 +2,7 @@
 -- for: read_switches
 use Rattle.std.proofs.Common.{◌≡◌, refl, ℕ, List, Result, Ok, Err, subst}
 use Rattle.std.specs.Prelude.{IfOk}
-use Rattle.cam_switch.specs.declared.switch.Switch.{Switch}
+use Rattle.switch_text.specs.declared.switch.Switch.{Switch}
 use Rattle.line_text.specs.Lines.{last_line_of, lines_of}
 use Rattle.line_text.specs.Reading.{at_line, lines_meaning, reading_of, text_meaning}
 use Rattle.line_text.specs.Spelling.{AreSpelled}

@@ -1,3 +1,8 @@
+pub mod Switches
+pub mod Columns
+pub mod Edges
+pub mod Watches
+pub mod Laws
 pub mod SoFar
 pub mod Places
 pub mod Reading

@@ -2,9 +2,9 @@
 use Rattle.std.specs.Prelude.{ℕ, codes, decimal, if◌then◌else◌, List, [], ◌∷◌}
 use Rattle.std.specs.List.{concat, flat_map}
 use Rattle.plc_types.specs.declared.axis.AxisRow.{AxisRow}
-use Rattle.cam_switch.specs.Edges.{edges_of}
-use Rattle.cam_switch.specs.declared.edge.Edge.{Edge}
-use Rattle.cam_switch.specs.declared.switch.Switch.{Switch}
+use Rattle.switch_text.specs.Edges.{edges_of}
+use Rattle.switch_text.specs.declared.edge.Edge.{Edge}
+use Rattle.switch_text.specs.declared.switch.Switch.{Switch}
 use Rattle.motion_history.specs.Entries.{Entry, call, cycle, end_of}
 
 -- the rows of the axes in the cycles of some entries, cycle by cycle

@@ -4,8 +4,8 @@ use Rattle.std.specs.List.{list_any}
 use Rattle.std.specs.Option.{ok_or}
 use Rattle.std.specs.Str.{bytes_eq}
 use Rattle.plc_types.specs.Names.{is_name}
-use Rattle.cam_switch.specs.Switches.{is_switch}
-use Rattle.cam_switch.specs.declared.switch.Switch.{Switch}
+use Rattle.switch_text.specs.Switches.{is_switch}
+use Rattle.switch_text.specs.declared.switch.Switch.{Switch}
 use Rattle.line_text.specs.Reading.{◌>>=◌, Meaning, reading_of}
 use Rattle.line_text.specs.Rules.{broken_unless}
 use Rattle.line_text.specs.Texts.{says}

@@ -1,7 +1,7 @@
 -- What switches a text is: it spells lines of words that lead from the beginning to them, each from
 -- where the file stands. Apart from where a text is refused. This project's profile.
 use Rattle.std.specs.Prelude.{◌≡◌, ℕ, List, Ok}
-use Rattle.cam_switch.specs.declared.switch.Switch.{Switch}
+use Rattle.switch_text.specs.declared.switch.Switch.{Switch}
 use Rattle.line_text.specs.Leading.{LinesLead}
 use Rattle.line_text.specs.Spelling.{SpellsLines}
 use Rattle.motion_history.specs.Setup.{Setup}

@@ -1,9 +1,9 @@
 -- Switches under way in a trace. This project's profile.
 use Rattle.std.specs.Prelude.{◌≡◌, ℕ, List, map, take, length}
 use Rattle.std.specs.List.{flat_map}
-use Rattle.cam_switch.specs.Edges.{edges_to}
-use Rattle.cam_switch.specs.Watches.{watch_at}
-use Rattle.cam_switch.specs.declared.switch.Switch.{Switch}
+use Rattle.switch_text.specs.Edges.{edges_to}
+use Rattle.switch_text.specs.Watches.{watch_at}
+use Rattle.switch_text.specs.declared.switch.Switch.{Switch}
 use Rattle.motion_history.specs.Entries.{Entry}
 use Rattle.switch_text.specs.Lines.{cycles_in, edge_line}
 use Rattle.switch_text.specs.declared.writing.EdgeLog.{EdgeLog}

@@ -3,12 +3,14 @@
 ghost use Rattle.std.specs.Prelude.{◌≡◌, ◌++◌, OnOk, codes, if◌then◌else◌};
 ghost use Rattle.std.specs.List.{flat_map};
 ghost use Rattle.std.specs.Option.{option_to_list};
-ghost use Rattle.cam_switch.specs.Watches.{edge_after, watch_after};
+ghost use Rattle.switch_text.specs.Watches.{edge_after, watch_after};
 ghost use Rattle.std.specs.Prelude.{map};
 ghost use Rattle.switch_text.specs.Lines as spec;
 
-use cam_switch::{AxisRow, Edge, Watch};
+use crate::edge::Edge;
+use crate::watch::Watch;
 use itoa::Buffer;
+use plc_types::AxisRow;
 use std::alloc::AllocError;
 
 // The last word of an edge's line.

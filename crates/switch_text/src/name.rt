@@ -6,7 +6,7 @@ ghost use Rattle.std.specs.Str.{bytes_eq};
 ghost use Rattle.machine_words.specs.Names as names;
 ghost use Rattle.switch_text.specs.Reading as spec;
 
-use cam_switch::Switch;
+use crate::switch::Switch;
 use machine_words::is_same_name;
 use motion_history::{AxisDef, Config};
 

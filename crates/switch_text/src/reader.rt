@@ -7,7 +7,7 @@ ghost use Rattle.switch_text.specs.Places as places;
 ghost use Rattle.switch_text.specs.Reading as spec;
 
 use crate::name::{axis_at, is_used};
-use cam_switch::{MOST_SWITCHES, Switch, is_switch};
+use crate::switch::{MOST_SWITCHES, Switch, is_switch};
 use line_text::{LineFault, LineReader, broken_unless, number_of, required, says};
 use motion_history::Config;
 use plc_types::{Name, is_name};

@@ -1,7 +1,7 @@
 // Reading a switch file.
 
 ghost use Rattle.std.specs.Prelude.{◌≡◌, List, IfOk, Ok};
-ghost use Rattle.cam_switch.specs.declared.switch.Switch.{Switch};
+ghost use Rattle.switch_text.specs.declared.switch.Switch.{Switch};
 ghost use Rattle.line_text.specs.Reading.{at_line};
 ghost use Rattle.machine_words.specs.Rules.{refused_by, told_as};
 ghost use Rattle.switch_text.specs.Reading as spec;
@@ -27,6 +27,7 @@ pub fn read_switches(alloc: Global, text: &[u8], config: &Config) -> Result<Swit
     // A text that has none is refused so.
     ensures exact { ReadsBy (spec.switches_of config.now text.now) result }
 {
+    // laws
     lines_are_spelled();
     read(alloc, text, config)
 }

@@ -2,7 +2,7 @@
 
 ghost use Rattle.std.specs.Prelude.{◌≡◌};
 
-use cam_switch::Switch;
+use crate::switch::Switch;
 use std::marker::Model;
 
 /// The switches of a file, in its order. Contracts see it as a list.
@@ -13,7 +13,7 @@ pub struct Switches {
 
 impl Model for Switches {
     ghost use Rattle.std.specs.Prelude.{List};
-    ghost use Rattle.cam_switch.specs.declared.switch.Switch.{Switch};
+    ghost use Rattle.switch_text.specs.declared.switch.Switch.{Switch};
 
     ghost Value = { List Switch };
 

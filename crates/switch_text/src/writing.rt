@@ -1,16 +1,18 @@
 // Writing the edges of switches in a trace.
 
 ghost use Rattle.std.specs.Prelude.{◌≡◌, ◌≤◌, ◌<◌, ◌+◌, ◌^◌, IfOk, OnOk, List, map, length, take};
-ghost use Rattle.cam_switch.specs.Watches.{watch_of};
-ghost use Rattle.cam_switch.specs.declared.switch.Switch.{Switch};
+ghost use Rattle.switch_text.specs.Watches.{watch_of};
+ghost use Rattle.switch_text.specs.declared.switch.Switch.{Switch};
 ghost use Rattle.switch_text.specs.Lines as spec;
 ghost use Rattle.switch_text.specs.UnderWay.{IsBehind};
 ghost use Rattle.trace_text.specs.TraceState.{entries_of};
 ghost use Rattle.trace_text.specs.writing.Writes.{Writes};
 
+use crate::laws::watches_go_on;
 use crate::lines::push_cycle;
+use crate::switch::Switch;
 use crate::switches::Switches;
-use cam_switch::{Switch, Watch, watches_go_on};
+use crate::watch::Watch;
 use motion_history::{EntryLook, OutOfMemory};
 use outside::{Sink, write_all};
 use std::alloc::{AllocError, Global};
@@ -29,6 +31,7 @@ pub fn write_edges<K: Sink>(
         (record { count = K.count out.new; told = K.told out.new })
         (spec.edges_text switches.now (spec.cycles_in (entries_of trace.now))) result }
 {
+    // laws
     parts_are_beginnings();
     match edges_text(alloc, switches, trace) {
         Ok(text) => write_text(text.as_slice(), out),
@@ -41,6 +44,7 @@ fn write_text<K: Sink>(text: &[u8], out: &mut K) -> Result<(), TraceFault>
     ensures { Writes (record { count = K.count out.old; told = K.told out.old })
         (record { count = K.count out.new; told = K.told out.new }) text.now result }
 {
+    // laws
     parts_are_beginnings();
     match write_all(out, text) {
         Ok(()) => Ok(()),
@@ -75,6 +79,7 @@ fn take_entry(log: &mut EdgeLog, trace: &Trace, place: u64) -> Result<(), AllocE
         OnOk result (IsBehind ss (entries_of trace.now) (place + 1) log.new) }
     ensures few { OnOk result (log.new.cycles ≤ place + 1) }
 {
+    // laws
     watches_go_on();
     match trace.look(place) {
         Some(EntryLook::Cycle { axes, .. }) => {
@@ -93,6 +98,7 @@ fn edges_text(alloc: Global, switches: &Switches, trace: &Trace) -> Result<Vec<u
     ensures { IfOk result (λ v. v.items ≡
         spec.edges_text switches.now (spec.cycles_in (entries_of trace.now))) }
 {
+    // laws
     watches_go_on();
     let mut log = EdgeLog {
         watches: watches_of(alloc, switches.list())?,

@@ -4,7 +4,7 @@ use Rattle.std.proofs.Common.{◌≡◌, ℕ, suc, ◌+◌, Bool, true, Option, 
 use Rattle.std.specs.Prelude.{IfOk, Result, Ok, Err, slice_get}
 use Rattle.std.specs.Borrow.{Bor}
 use Rattle.csv.specs.declared.reader.Reader.{Reader}
-use Rattle.csv_records.specs.Records.{IsReading, TakesNext, slice_left}
+use Rattle.trace_columns.specs.Records.{IsReading, TakesNext, slice_left}
 
 -- this many of some records are read, and the others are left
 pub record IsAhead (records : List (List (List ℕ))) (read : ℕ) (rdr : Reader (Bor (List ℕ))) : Type 0 where

@@ -11,21 +11,7 @@ ghost use Rattle.trace_check.specs.Replays.{cycle_of, with_made_from};
 
 use motion_history::{EntryLook, MOST_AXES};
 use motion_kernel::SegmentedKernel;
-use plc_types::{AxisRow, DriveIn, DriveOut};
-
-/// An answer before it is given.
-const NO_ANSWER: DriveIn = DriveIn {
-    statusword: 0,
-    mode_display: 0,
-    actual: 0,
-};
-
-/// An output before it is given.
-const NO_OUTPUT: DriveOut = DriveOut {
-    controlword: 0,
-    mode: 0,
-    target: 0,
-};
+use plc_types::{AxisRow, DriveIn, NO_ANSWER, NO_OUTPUT};
 
 /// Whether the history has room for an entry more, and where it is a cycle also for that.
 pub fn has_room(kernel: &SegmentedKernel, entry: &EntryLook<'_>) -> bool

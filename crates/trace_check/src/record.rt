@@ -6,11 +6,11 @@ ghost use Rattle.line_text.specs.Texts.{texts};
 ghost use Rattle.trace_text.specs.reading.Reading as spec;
 
 use csv::ByteRecord;
-use csv_records::field;
 use line_text::says;
 use motion_history::OutOfMemory;
 use std::alloc::Global;
 use std::marker::Model;
+use trace_columns::field;
 
 /// How many fields a record has.
 pub const FIELDS: usize = 12;

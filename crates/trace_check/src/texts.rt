@@ -2,7 +2,7 @@
 
 ghost use Rattle.std.specs.Prelude.{◌≡◌, ◌<◌, ℕ, IfOk, Some, slice_get};
 ghost use Rattle.std.specs.Option.{option_map};
-ghost use Rattle.csv_records.specs.Records.{records_of};
+ghost use Rattle.trace_columns.specs.Records.{records_of};
 ghost use Rattle.motion_history.specs.Looks.{told};
 ghost use Rattle.trace_text.specs.Records.{padded};
 ghost use Rattle.trace_text.specs.Trace.{entry_records};
@@ -13,10 +13,10 @@ ghost use Rattle.trace_text.specs.TraceKept.{IsTraceKept};
 
 use crate::record::Record;
 use csv::ByteRecord;
-use csv_records::{next_record, open_records};
 use itoa::Buffer;
 use motion_history::{Config, EntryLook, OutOfMemory, TraceVersion};
 use std::alloc::Global;
+use trace_columns::{next_record, open_records};
 use trace_text::{Trace, entry_piece, records_are_read_back};
 
 // The record at a place of a text, counted from 0. It is there, and has twelve fields.
@@ -48,6 +48,7 @@ pub fn entry_record(
         option_map padded (slice_get (entry_records version config.now (told entry.now)) place) ≡
         Some r) }
 {
+    // laws
     records_are_read_back();
     let text = entry_piece(alloc, version, config, entry)?;
     record_at(alloc, text.as_slice(), place)

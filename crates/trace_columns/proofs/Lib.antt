@@ -3,3 +3,5 @@ pub mod BackLaws
 pub mod ShortLaws
 pub mod HexLaws
 mod WordLaws
+pub mod RecordLaws
+mod RecordSteps

@@ -49,6 +49,7 @@ fn check_trace<K: Sink>(alloc: Global, trace: &Trace, out: &mut K) -> Status
         (record { count = K.count out.new; told = K.told out.new })
         (plan_of_check whole) result }
 {
+    // laws
     migrated_traces_are_legal();
     match check(alloc, trace) {
         Ok(Verdict::Legal { entries }) => say_legal(alloc, entries, out),
@@ -94,6 +95,7 @@ fn migrate_trace<K: Sink>(alloc: Global, trace: &Trace, out: &mut K) -> Status
         (record { count = K.count out.new; told = K.told out.new })
         (plan_of_migrate whole) result }
 {
+    // laws
     migrated_traces_are_legal();
     match replay(alloc, trace) {
         Ok(Replayed::Legal(kernel)) => {

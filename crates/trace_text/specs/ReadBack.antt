@@ -3,7 +3,7 @@ use Rattle.std.specs.Prelude.{◌≡◌, ◌≤◌, ◌-◌, ◌^◌, ℕ, Ok, S
 use Rattle.plc_types.specs.declared.axis.AxisDef.{AxisDef}
 use Rattle.plc_types.specs.declared.axis.AxisRow.{AxisRow}
 use Rattle.plc_types.specs.declared.group.GroupRow.{GroupRow}
-use Rattle.csv_records.specs.Records.{records_of}
+use Rattle.trace_columns.specs.Records.{records_of}
 use Rattle.motion_history.specs.Entries.{Entry}
 use Rattle.motion_history.specs.Setup.{Setup}
 use Rattle.motion_history.specs.declared.refused.TraceVersion.{TraceVersion}

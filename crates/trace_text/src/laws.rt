@@ -6,10 +6,9 @@ ghost use Rattle.trace_text.specs.ReadBack.{AreRowsReadBack, EntriesAreReadBack,
 ghost use Rattle.trace_text.specs.writing.Writes.{WritesPrefix};
 
 use cam_table::cam_tables_are_told;
-use csv_records::written_records_are_read_back;
 use motion_history::axes_are_in_range;
 use plc_types::names_are_read_back;
-use trace_columns::columns_are_read_back;
+use trace_columns::{columns_are_read_back, written_records_are_read_back};
 
 /// Nothing of a text is a beginning of it, and so is a part of it that was taken. Nothing runs.
 pub fn parts_are_beginnings()

@@ -32,6 +32,7 @@ pub fn move_step(distance: i64, old: i64, rates: &Rates) -> i64
     ensures definition { IsMoveStep distance old rates.now result }
     ensures small { IsStep result }
 {
+    // laws
     ways_to_rest();
     searches_find_the_greatest();
     steps_fall_toward_zero();
@@ -98,6 +99,7 @@ fn plan_move_counted<L: Ledger>(
     ensures small { IsStep result.step }
     ensures cost { steps.new ≤ steps.old + 128 }
 {
+    // laws
     ways_to_rest();
     searches_find_the_greatest();
     if 0 < distance && 0 <= old {
@@ -136,6 +138,7 @@ fn step_ahead<L: Ledger>(way: u64, speed: u64, rates: &Rates, steps: &mut Steps<
     ensures small { IsStep result.step }
     ensures cost { steps.new ≤ steps.old + 64 }
 {
+    // laws
     ways_to_rest();
     searches_find_the_greatest();
     let d = rates.d as u64;

@@ -18,6 +18,7 @@ pub fn velocity_step(toward: i64, old: i64, rates: &Rates) -> i64
     ensures value { result ≡ velocity_step_of toward old rates.now }
     ensures small { IsStep result }
 {
+    // laws
     steps_fall_toward_zero();
     if 0 <= toward && 0 <= old {
         speed_after(toward.unsigned_abs(), old.unsigned_abs(), rates) as i64

@@ -28,6 +28,7 @@ pub fn blended_with(axis: &Axis, wanted: &Wanted, next: Option<&Wanted>) -> Opti
     ensures value { result ≡ spec.blended_with axis.now wanted.now (option_copied next.entry) }
     ensures kept { IfSome result (IsBlend axis.now (spec.target_of wanted.now)) }
 {
+    // laws
     blends_apply_by_test();
     let Some(next) = next else {
         return None;

@@ -20,8 +20,8 @@ use Rattle.group_core.specs.blocks.Halts.{leaves_stopping}
 use Rattle.group_core.specs.blocks.Reset.{after_reset, may_reset, reset_by, reset_notes}
 use Rattle.group_core.specs.declared.group.Group.{Group}
 use Rattle.group_core.specs.declared.look.GroupLook.{GroupLook}
-use Rattle.group_state.specs.Diagram.{next_of}
-use Rattle.group_state.specs.declared.diagram.GroupEvent.TheVariants.{StopReleased}
+use Rattle.axis_state.specs.GroupDiagram.{next_of}
+use Rattle.axis_state.specs.declared.group_diagram.GroupEvent.TheVariants.{StopReleased}
 use Rattle.command_changes.specs.Failing.{failing}
 use Rattle.command_changes.specs.Group.{command_state_of, cycle_changes, ending_changes, release_changes, reset_changes, reset_changes_by}
 use Rattle.command_changes.proofs.Choices.{either, by_if}

@@ -1,7 +1,7 @@
 -- MC_GroupEnable and MC_GroupDisable (PLCopen Motion Control Part 4).
 use Rattle.std.specs.Prelude.{List, [], ◌∷◌}
-use Rattle.group_state.specs.Diagram.{next_of}
-use Rattle.group_state.specs.declared.diagram.GroupEvent.TheVariants.{Enable, Disable}
+use Rattle.axis_state.specs.GroupDiagram.{next_of}
+use Rattle.axis_state.specs.declared.group_diagram.GroupEvent.TheVariants.{Enable, Disable}
 use Rattle.group_core.specs.declared.group.Group.{Group}
 use Rattle.group_core.specs.declared.reason.Reason.{Reason}
 use Rattle.group_core.specs.declared.reason.Reason.TheVariants.{NotPowered, InErrorStop, InStopping, InHoming, NotAtRest, GroupStateRefuses}

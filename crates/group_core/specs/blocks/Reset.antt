@@ -6,8 +6,8 @@ use Rattle.command_pool.specs.Waiting.{told_to}
 use Rattle.command_pool.specs.declared.ending.Finish.TheVariants as finish
 use Rattle.command_pool.specs.declared.notes.Note.{Note}
 use Rattle.command_pool.specs.declared.wanted.Wanted.{Wanted}
-use Rattle.group_state.specs.Diagram.{next_of}
-use Rattle.group_state.specs.declared.diagram.GroupEvent.TheVariants.{ResetAllStandstill, ResetElse}
+use Rattle.axis_state.specs.GroupDiagram.{next_of}
+use Rattle.axis_state.specs.declared.group_diagram.GroupEvent.TheVariants.{ResetAllStandstill, ResetElse}
 use Rattle.plc_types.specs.declared.group.GroupState.{GroupState}
 use Rattle.plc_types.specs.declared.group.GroupState.TheVariants as state
 use Rattle.group_core.specs.States.{is_error_stop, is_moved}

@@ -2,12 +2,12 @@
 
 ghost use Rattle.std.specs.Prelude.{◌≡◌};
 ghost use Rattle.group_core.specs.blocks.Enable as spec;
-ghost use Rattle.group_state.specs.Diagram.{IsFrom};
-ghost use Rattle.group_state.specs.declared.diagram.GroupEvent.TheVariants as event;
+ghost use Rattle.axis_state.specs.GroupDiagram.{IsFrom};
+ghost use Rattle.axis_state.specs.declared.group_diagram.GroupEvent.TheVariants as event;
 
 use crate::group::Group;
 use crate::reason::Reason::{self, *};
-use group_state::{GroupEvent, group_next};
+use axis_state::{GroupEvent, group_next};
 
 /// The reasons against which a GroupEnable is tested, in their order.
 pub const ENABLE_TESTS: &[Reason] = &[

@@ -10,9 +10,9 @@ ghost use Rattle.group_core.specs.blocks.Reset as spec;
 use crate::group::Group;
 use crate::look::{GroupLook, states_in};
 use crate::states::{any_moved, is_error_stop};
+use axis_state::{GroupEvent, group_next};
 use buffer_modes::{PendingReset, tell_reset};
 use command_pool::{Finish, Notes, Wanted};
-use group_state::{GroupEvent, group_next};
 use plc_types::GroupState;
 
 /// A GroupReset is pending; one that it replaces is aborted.

@@ -3,30 +3,36 @@
 ghost use Rattle.std.specs.Prelude.{◌≡◌, ◌↔◌, IsTrue, Some, ◌≤◌, ◌^◌, pos, ◌≤ℤ◌, ◌+ℤ◌, ◌-ℤ◌, unsigned_abs};
 ghost use Rattle.axis_core.specs.AxisKept as kept;
 ghost use Rattle.axis_core.specs.AxisKept.{IsActive, IsHomeWithin, IsReady};
+ghost use Rattle.axis_state.specs.declared.diagram.AxisEvent.{AxisEvent};
 ghost use Rattle.plc_types.specs.Counts.{HasCounts};
 ghost use Rattle.command_pool.specs.declared.wanted.Wanted.{Wanted};
 ghost use Rattle.plc_types.specs.Limits.{AreLimits};
 
-use crate::axis::numbers::{are_numbers, has_small_target, is_move_within};
+use crate::axis::numbers::{are_numbers, has_small_target, is_fixed_within};
 use crate::counts::has_counts;
 use crate::limits::is_within;
-use axis_core::{Axis, AxisState, BlockKind, Wanted};
+use axis_core::{Axis, AxisState, BlockKind, Goal, Wanted, profile_for};
+use axis_state::AxisEvent;
+
+// Whether an event leads to a state.
+fn fits_by(state: AxisState, event: Option<AxisEvent>) -> bool
+    ensures { result ≡ kept.fits_by state event }
+{
+    match state {
+        AxisState::DiscreteMotion => matches!(event, Some(AxisEvent::DiscreteActive)),
+        AxisState::ContinuousMotion => matches!(event, Some(AxisEvent::VelocityActive)),
+        AxisState::SynchronizedMotion => matches!(event, Some(AxisEvent::FollowActive)),
+        AxisState::Stopping => matches!(event, Some(AxisEvent::StopAdmitted)),
+        AxisState::Homing => matches!(event, Some(AxisEvent::HomeAdmitted)),
+        _ => false,
+    }
+}
 
 // Whether a command may be active in a state.
 fn fits(state: AxisState, kind: BlockKind) -> bool
     ensures { result ≡ kept.fits state kind }
 {
-    match state {
-        AxisState::DiscreteMotion => matches!(
-            kind,
-            BlockKind::MoveAbsolute | BlockKind::MoveRelative | BlockKind::Halt
-        ),
-        AxisState::ContinuousMotion => matches!(kind, BlockKind::MoveVelocity),
-        AxisState::SynchronizedMotion => matches!(kind, BlockKind::GearIn | BlockKind::CamIn),
-        AxisState::Stopping => matches!(kind, BlockKind::Stop),
-        AxisState::Homing => matches!(kind, BlockKind::Home),
-        _ => false,
-    }
+    fits_by(state, profile_for(kind).event)
 }
 
 // The offset of an axis once a Home has set its position.
@@ -50,7 +56,7 @@ fn keeps_counts(axis: &Axis, position: i64) -> bool
 fn is_home_within(axis: &Axis, wanted: &Wanted) -> bool
     requires { pos 1 ≤ℤ axis.now.inc }
     ensures { IsTrue result ↔ IsHomeWithin axis.now.limits axis.now.inc axis.now.offset
-        axis.now.setpoint wanted.now }
+        axis.now.setpoint wanted.now.target }
 {
     match wanted.target {
         Some(target) => is_within(&axis.limits, target) && keeps_counts(axis, target),
@@ -64,10 +70,10 @@ fn is_ready(axis: &Axis, wanted: &Wanted) -> bool
     ensures { IsTrue result ↔ IsReady wanted.now.kind axis.now.limits axis.now.inc axis.now.offset
         axis.now.setpoint wanted.now }
 {
-    match wanted.kind {
-        BlockKind::MoveRelative => is_move_within(&axis.limits, wanted),
-        BlockKind::Home => is_home_within(axis, wanted),
-        _ => true,
+    match profile_for(wanted.kind).goal {
+        Goal::FromBefore => is_fixed_within(&axis.limits, wanted),
+        Goal::Origin => is_home_within(axis, wanted),
+        Goal::NoGoal | Goal::Given => true,
     }
 }
 

@@ -2,27 +2,12 @@
 
 ghost use Rattle.std.specs.Prelude.{◌≡◌, ◌↔◌, IsTrue, ◌≤◌, unsigned_abs};
 ghost use Rattle.axis_core.specs.AxisKept.{IsWaiting, MayQueue};
-ghost use Rattle.axis_core.specs.Kinds as kinds;
 ghost use Rattle.axis_core.specs.blocks.Moves.{position_of};
 ghost use Rattle.plc_types.specs.Limits.{AreLimits};
 
 use crate::axis::numbers::{are_numbers, has_small_target};
-use axis_core::{Axis, AxisState, BlockKind, Limits, Wanted};
+use axis_core::{Axis, AxisState, Limits, Wanted, may_wait};
 use motion_numbers::MOST_NUMBER;
-
-// Whether a kind takes a buffer mode, so that its command may wait.
-fn may_wait(kind: BlockKind) -> bool
-    ensures { result ≡ kinds.may_wait kind }
-{
-    matches!(
-        kind,
-        BlockKind::MoveAbsolute
-            | BlockKind::MoveRelative
-            | BlockKind::MoveVelocity
-            | BlockKind::GearIn
-            | BlockKind::CamIn
-    )
-}
 
 // Whether the first position of a command is small enough to be worked with.
 fn has_small_position(wanted: &Wanted) -> bool

@@ -46,6 +46,7 @@ fn is_group(config: &Config, start: &Start, number: u8, on: &GroupOnPath<LinePat
     let members = members_in(config, number);
     let limits = limits_in(config, members);
     let list = config.axes().len() as u8 + number;
+    // laws
     configurations_are_sound();
     on.group.axes as usize == members.len()
         && is_group_kept(start, list, &limits[..members.len()], on)

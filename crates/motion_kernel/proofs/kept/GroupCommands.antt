@@ -14,7 +14,7 @@ use Rattle.group_core.specs.Kinds.{event_of}
 use Rattle.group_core.specs.Refusals.{refusal_of}
 use Rattle.group_core.specs.declared.look.GroupLook.{GroupLook}
 use Rattle.group_core.specs.declared.reason.Reason.{Reason}
-use Rattle.group_state.specs.Diagram.{next_of}
+use Rattle.axis_state.specs.GroupDiagram.{next_of}
 use Rattle.plc_types.specs.declared.group.GroupState.{GroupState}
 use Rattle.plc_types.specs.declared.group.GroupState.TheVariants.{GroupStandby}
 use Rattle.plc_types.specs.declared.limits.Limits.{Limits}

@@ -89,8 +89,6 @@ slowing_step kind.Halt t a w next look d h =
     ap (λ x. a.setpoint +ℤ step_of a x) (let e : w.rates.d ≡ d = cc in e)
 slowing_step kind.Stop t a w next look d h =
     ap (λ x. a.setpoint +ℤ step_of a x) (let e : w.rates.d ≡ d = cc in e)
-slowing_step kind.MoveAbsolute t a w next look d h = absurd (cc)
-slowing_step kind.MoveRelative t a w next look d h = absurd (cc)
 slowing_step _ t a w next look d h = absurd (cc)
 
 -- their deceleration is within the limits
@@ -102,16 +100,14 @@ slowing_rate : (k : BlockKind) (l : Limits) (w : Wanted) (d : ℤ) →
     course_by k w ≡ Some (slowing d) → kept.AreNumbers k l w → IsRate d l
 slowing_rate kind.Halt l w d h n =
     let e : w.rates.d ≡ d = cc in
-    let above = n.above in
-    let below = n.below in
-    subst (λ x. IsRate x l) e (record { least = omega (arith, ints); most = below })
+    let within = n.deceleration refl in
+    let above = within.above in
+    subst (λ x. IsRate x l) e (record { least = omega (arith, ints); most = within.below })
 slowing_rate kind.Stop l w d h n =
     let e : w.rates.d ≡ d = cc in
-    let above = n.above in
-    let below = n.below in
-    subst (λ x. IsRate x l) e (record { least = omega (arith, ints); most = below })
-slowing_rate kind.MoveAbsolute l w d h n = absurd (cc)
-slowing_rate kind.MoveRelative l w d h n = absurd (cc)
+    let within = n.deceleration refl in
+    let above = within.above in
+    subst (λ x. IsRate x l) e (record { least = omega (arith, ints); most = within.below })
 slowing_rate _ l w d h n = absurd (cc)
 
 -- the step that is taken slows down

@@ -215,15 +215,6 @@ first_reason q (x ∷ xs) r e = elim (cases_Bool (holds x q)) [
 
 table : (k : BlockKind) → map number_of (tests_of k) ≡ tested k
 table kind.Home = refl
-table kind.Stop = refl
-table kind.Halt = refl
-table kind.MoveAbsolute = refl
-table kind.MoveRelative = refl
-table kind.MoveVelocity = refl
-table kind.GearIn = refl
-table kind.GearOut = refl
-table kind.CamIn = refl
-table kind.CamOut = refl
 table _ = refl
 
 pub axis_first : (q : Asked) (r : Reason) → refusal_of q ≡ Some r →

@@ -181,11 +181,6 @@ first_reason q (x ∷ xs) r e = elim (cases_Bool (holds x q)) [
 
 table : (k : BlockKind) → map number_of (tests_of k) ≡ tested k
 table kind.GroupEnable = refl
-table kind.GroupDisable = refl
-table kind.GroupStop = refl
-table kind.GroupHalt = refl
-table kind.MoveLinearAbsolute = refl
-table kind.MoveCircularAbsolute = refl
 table _ = refl
 
 pub group_first : (q : Asked) (r : Reason) → refusal_of q ≡ Some r →

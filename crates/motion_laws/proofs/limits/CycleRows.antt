@@ -1,5 +1,5 @@
 -- The row of an axis in a cycle keeps the axis's limits, and leads on to the axis after it.
--- for: rows_keep_limits
+-- for: rows_keep_limits, spells_begin_at_drives, targets_follow_setpoints
 use Rattle.std.specs.Prelude.{ℕ, ◌<◌, List, length, slice_index_or}
 use Rattle.std.proofs.Common.{sym, subst}
 use Rattle.axis_core.specs.AxisKept as axis

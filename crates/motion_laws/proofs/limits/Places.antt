@@ -1,5 +1,5 @@
 -- Calls move no axis.
--- for: rows_keep_limits
+-- for: rows_keep_limits, spells_begin_at_drives, targets_follow_setpoints
 use Rattle.std.specs.Prelude.{refl, ℕ, Bool}
 use Rattle.std.proofs.Common.{◌∙◌}
 use Rattle.axis_core.specs.Calls.{axis_without_owner, core_after_command, core_after_power}

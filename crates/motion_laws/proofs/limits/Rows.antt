@@ -1,5 +1,5 @@
 -- Every row of a past keeps its axis's limits.
--- for: rows_keep_limits
+-- for: rows_keep_limits, spells_begin_at_drives, targets_follow_setpoints
 use Rattle.std.specs.Prelude.{◌≡◌, refl, ℕ, zero, suc, ◌+◌, ◌<◌, pos, ◌-ℤ◌, Option, Some, List, [], ◌∷◌, length, slice_get, slice_index_or}
 use Rattle.std.proofs.Common.{arith, ap, sym, subst, ◌∙◌}
 use Rattle.std.proofs.lemmas.Int.{ints}
@@ -70,11 +70,11 @@ rows_keep laws s cycles m (cycle c rows grows ∷ es) whole h f n l =
 rows_keep laws s cycles m (end_of task ∷ es) whole h f n l = rows_keep laws s (cycles + cycle_count (end_of task)) m es whole h f.1 n l
 
 -- an axis of a configuration
-record IsThere (axes : List AxisDef) (n : ℕ) (d : AxisDef) : Type 0 where
-  there : n < length axes
-  is : slice_index_or axes n no_def ≡ d
+pub record IsThere (axes : List AxisDef) (n : ℕ) (d : AxisDef) : Type 0 where
+  pub there : n < length axes
+  pub is : slice_index_or axes n no_def ≡ d
 
-is_there : (axes : List AxisDef) (n : ℕ) (d : AxisDef) → slice_get axes n ≡ Some d → IsThere axes n d
+pub is_there : (axes : List AxisDef) (n : ℕ) (d : AxisDef) → slice_get axes n ≡ Some d → IsThere axes n d
 is_there [] n d e = absurd (cc)
 is_there (a ∷ more) zero d e = record { there = omega arith; is = cc }
 is_there (a ∷ more) (suc n) d e =

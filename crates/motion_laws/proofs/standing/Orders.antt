@@ -4,7 +4,7 @@ use Rattle.std.specs.Prelude.{◌≡◌, refl, ℕ, ◌<◌, Bool, true, false, 
 use Rattle.std.specs.List.{AllByRecursion}
 use Rattle.std.proofs.Common.{arith, ap, sym, subst, ◌∙◌, inl, inr}
 use Rattle.std.proofs.lemmas.Bool.{cases_Bool, lt-ltb}
-use Rattle.axis_core.proofs.MayAdmit.{none-holds}
+use Rattle.axis_core.proofs.MayAdmit.{none-held}
 use Rattle.axis_core.specs.Calls.{axis_without_owner, core_after_admission, core_after_command, core_after_disabling, core_after_joining, core_after_leaving, core_after_power, core_after_verdict, core_with_queued, core_with_reset, queue_in}
 use Rattle.axis_core.specs.Cores.{Core, axis_under, axis_under_by, core_after_end, core_after_ending, core_after_error, core_after_take_over, core_taken_by, core_under_from}
 use Rattle.axis_core.specs.Cycles.{Advance, advance_by_command, advance_by_progress, advance_in_cycle, advance_without_error, axis_after_progress, axis_after_word, core_after_advance, core_after_answer, core_after_cycle, core_after_going_on, core_after_reset, core_after_step, progress_in_cycle}
@@ -12,8 +12,8 @@ use Rattle.axis_core.specs.Demands.{IsMade, asked_target}
 use Rattle.axis_core.specs.Drives.{answer_error_of, axis_at_drive, is_driven}
 use Rattle.axis_core.specs.Kinds.{may_wait, tests_of}
 use Rattle.axis_core.specs.Refusals.{Asked, first_holding, holds, refusal_of}
-use Rattle.axis_core.specs.blocks.Cam.{cam_tests, is_no_table}
-use Rattle.axis_core.specs.blocks.Gear.{gear_tests, is_master, velocity_command}
+use Rattle.axis_core.specs.blocks.Cam.{is_no_table}
+use Rattle.axis_core.specs.blocks.Gear.{is_master, velocity_command}
 use Rattle.axis_core.specs.blocks.Halts.{axis_after_stop, hold_by, leaves_stopping}
 use Rattle.axis_core.specs.blocks.Moves.{known_target_by, known_target_of, position_of, target_of, with_target}
 use Rattle.axis_core.specs.blocks.Path.{axis_on_path, place_on_path}
@@ -22,6 +22,7 @@ use Rattle.axis_core.specs.declared.axis.Axis.{Axis}
 use Rattle.axis_core.specs.declared.look.AxisLook.{AxisLook}
 use Rattle.axis_core.specs.declared.progress.Progress.{Progress}
 use Rattle.axis_core.specs.declared.reason.Reason.{Reason}
+use Rattle.axis_core.specs.declared.reason.Reason.TheVariants.{NoTable, SelfMaster}
 use Rattle.axis_state.specs.States.{is_error_stop}
 use Rattle.buffer_modes.specs.Owners.{active_without}
 use Rattle.buffer_modes.specs.Queue.{Commands, admitted, behind, is_aborting, is_active_at_once}
@@ -92,9 +93,9 @@ other_by : (q : Asked) (k : BlockKind) → q.wanted.kind ≡ k → refusal_of q 
     is_follow_of k q.wanted.follow ≡ true → is_master q.number q.wanted.follow ≡ false
 unfolding holds
 other_by q kind.GearIn is none f =
-    (none-holds q gear_tests (not_refused q kind.GearIn is none)).1.1.1.1.1.1.1.1.1.1.0
+    none-held q kind.GearIn (not_refused q kind.GearIn is none) SelfMaster refl
 other_by q kind.CamIn is none f =
-    (none-holds q cam_tests (not_refused q kind.CamIn is none)).1.1.1.1.1.1.1.1.1.1.1.0
+    none-held q kind.CamIn (not_refused q kind.CamIn is none) SelfMaster refl
 other_by q k is none f = ap (is_master q.number) (none_followed k q.wanted.follow refl f)
 
 table_of_gear : (tables : ℕ) (f : Follow) → is_follow_of kind.GearIn f ≡ true →
@@ -108,7 +109,7 @@ table_by : (q : Asked) (k : BlockKind) → q.wanted.kind ≡ k → refusal_of q 
 unfolding holds
 table_by q kind.GearIn is none f = table_of_gear q.tables q.wanted.follow f
 table_by q kind.CamIn is none f =
-    (none-holds q cam_tests (not_refused q kind.CamIn is none)).1.1.1.1.1.1.1.1.1.1.0
+    none-held q kind.CamIn (not_refused q kind.CamIn is none) NoTable refl
 table_by q k is none f = ap (is_no_table q.tables) (none_followed k q.wanted.follow refl f)
 
 -- the target is known in the call, unless the command is relative

@@ -8,8 +8,8 @@ use Rattle.plc_types.specs.declared.kind.BlockKind.{BlockKind}
 use Rattle.plc_types.specs.declared.kind.BlockKind.TheVariants as kind
 use Rattle.plc_types.specs.declared.kind.BufferMode.TheVariants.{Aborting, Buffered}
 use Rattle.group_core.specs.Refusals.{Asked, limits_in, states_in}
-use Rattle.group_state.specs.Diagram.{IsFrom}
-use Rattle.group_state.specs.declared.diagram.GroupEvent.TheVariants as event
+use Rattle.axis_state.specs.GroupDiagram.{IsFrom}
+use Rattle.axis_state.specs.declared.group_diagram.GroupEvent.TheVariants as event
 use Rattle.plc_types.specs.declared.group.GroupState.{GroupState}
 use Rattle.plc_types.specs.declared.group.GroupState.TheVariants as state
 use Rattle.linear_path.specs.Line.{coordinate_of}

@@ -9,7 +9,7 @@ use Rattle.std.proofs.lemmas.List.Elements.{All-from_get_or, recursion_from_All}
 use Rattle.std.proofs.lemmas.Bool.{true_from_ne_false}
 use Rattle.plc_types.specs.declared.axis.AxisDef.{AxisDef}
 use Rattle.cam_table.specs.CamTable.{IsCamTable, is_cam_table, size_of}
-use Rattle.csv_records.specs.Records.{RecordsAreReadBack}
+use Rattle.trace_columns.specs.Records.{RecordsAreReadBack}
 use Rattle.plc_types.specs.KindNames.{AreNamed}
 use Rattle.line_text.specs.Reading.{each_of}
 use Rattle.line_text.specs.Rules.{in_range}

@@ -6,8 +6,8 @@ use Rattle.std.proofs.Common.{◌∙◌, ap, arith}
 use Rattle.std.proofs.lemmas.List.Elements.{All-from_recursion}
 use Rattle.csv.specs.Reading.{strip_bom}
 use Rattle.csv.specs.Writing.{default_writer, row_text}
-use Rattle.csv_records.specs.Records as csv
-use Rattle.csv_records.specs.Records.{RecordsAreReadBack, records_of}
+use Rattle.trace_columns.specs.Records as csv
+use Rattle.trace_columns.specs.Records.{RecordsAreReadBack, records_of}
 use Rattle.plc_types.specs.declared.inputs.Inputs.{Inputs}
 use Rattle.plc_types.specs.declared.outputs.Outputs.{Outputs}
 use Rattle.motion_history.specs.Entries.{Entry, call, cycle, end_of}

@@ -9,7 +9,7 @@ use Rattle.csv.specs.declared.reader.Reader.{Reader}
 use Rattle.line_text.specs.Reading.{Takes, at_line}
 use Rattle.line_text.specs.declared.reader.LineFault.{LineFault}
 use Rattle.line_text.specs.declared.reader.LineFault.TheVariants as line
-use Rattle.csv_records.specs.Records.{records_of}
+use Rattle.trace_columns.specs.Records.{records_of}
 use Rattle.line_text.proofs.Results.{ok_is}
 use Rattle.machine_words.specs.Rules.{refused_by, told_as}
 use Rattle.motion_history.specs.Setup.{IsSetup}

@@ -4,7 +4,7 @@ use Rattle.std.specs.Prelude.{◌≡◌, refl, ℕ, ◌+◌, Bool, true, false, 
 use Rattle.std.specs.Borrow.{Bor}
 use Rattle.std.proofs.Common.{◌∙◌, sym, arith}
 use Rattle.csv.specs.declared.reader.Reader.{Reader}
-use Rattle.csv_records.specs.Records.{IsReading, TakesNext, slice_left}
+use Rattle.trace_columns.specs.Records.{IsReading, TakesNext, slice_left}
 use Rattle.trace_text.specs.reading.Reading.{meaning, records_meaning}
 use Rattle.trace_text.specs.reading.SoFar.{SoFar}
 

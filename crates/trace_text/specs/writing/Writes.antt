@@ -2,7 +2,7 @@
 use Rattle.std.specs.Prelude.{◌≡◌, ℕ, Option, Result, Ok, Err, List, ◌++◌}
 use Rattle.std.specs.Io.KnownBytes.{Appends}
 use Rattle.std.proofs.Common.{Vec, Global}
-use Rattle.out_of_memory.specs.declared.OutOfMemory.{OutOfMemory}
+use Rattle.motion_numbers.specs.declared.out_of_memory.OutOfMemory.{OutOfMemory}
 use Rattle.outside.specs.Faults.{Rose}
 use Rattle.trace_text.specs.declared.writing.write.TraceFault.{TraceFault}
 use Rattle.trace_text.specs.declared.writing.write.TraceFault.TheVariants as fault

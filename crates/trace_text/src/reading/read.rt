@@ -2,7 +2,7 @@
 
 ghost use Rattle.std.specs.Prelude.{◌≡◌, IfErr, IfOk, None, Ok, false, length};
 ghost use Rattle.csv.specs.Records.{fields_of};
-ghost use Rattle.csv_records.specs.Records.{records_of};
+ghost use Rattle.trace_columns.specs.Records.{records_of};
 ghost use Rattle.line_text.specs.Reading.{Takes, at_line};
 ghost use Rattle.line_text.specs.Texts.{texts};
 ghost use Rattle.machine_words.specs.Rules.{refused_by, told_as};
@@ -25,11 +25,11 @@ use crate::reading::rule::{NOT_TWELVE, TOO_SHORT};
 use crate::records::FIELDS;
 use crate::trace::Trace;
 use csv::ByteRecord;
-use csv_records::{field, next_record, open_records};
 use line_text::{LineFault, LineRefused, LinesFault};
 use machine_words::{KnownBlocks, refused_by};
 use motion_history::{Builder, OutOfMemory, TextFault, TraceVersion};
 use std::alloc::Global;
+use trace_columns::{field, next_record, open_records};
 
 /// The trace that a text is. A text that is none is refused at its first record that breaks a rule,
 /// counted from 1, by the first rule that it breaks: T1 to T6. It takes memory for one record at a

@@ -3,8 +3,9 @@
 ghost use Rattle.std.specs.Prelude.{◌≡◌};
 
 use crate::tests::standbys::machine::{Ends, MOVE, event, expect_move, machine};
-use hot_standby::{DriveIn, DriveOut, Fed, FedEvent, Kernel, Standby};
+use hot_standby::{DriveIn, Fed, FedEvent, Kernel, Standby};
 use kernel_uses::{try_call, try_cycle};
+use plc_types::NO_OUTPUT;
 use std::alloc::Global;
 use std::test::Fail;
 use std::thread;
@@ -34,11 +35,7 @@ fn makes_cycle(kernel: &mut Kernel, ins: &[DriveIn]) -> bool {
     if kernel.config().axes().len() != 1 || ins.len() != 1 {
         return false;
     }
-    let mut outs = [DriveOut {
-        controlword: 0,
-        mode: 0,
-        target: 0,
-    }];
+    let mut outs = [NO_OUTPUT];
     try_cycle(kernel, ins, &mut outs).is_ok()
 }
 

@@ -5,9 +5,9 @@ ghost use Rattle.plc_types.specs.declared.kind.BlockKind.{BlockKind};
 ghost use Rattle.plc_types.specs.Inputs.{AreInputs};
 ghost use Rattle.kernel_turn.specs.Turns.{IsSamePermit, opening_permit};
 
-use kernel_turn::{DriveIn, DriveOut, Inputs, Kernel, KernelTurn, Outputs, Permit, Turn};
+use kernel_turn::{DriveIn, Inputs, Kernel, KernelTurn, Outputs, Permit, Turn};
 use motion_history::{Builder, Config, ConfigFault, Limits};
-use plc_types::{BlockKind, BufferMode};
+use plc_types::{BlockKind, BufferMode, NO_OUTPUT};
 use std::alloc::Global;
 use std::process::Abort;
 use std::sync::Wait;
@@ -106,11 +106,7 @@ pub(crate) fn cycle<R: Wait + Abort>(
         mode_display: 8,
         actual: 0,
     };
-    let mut outs = [DriveOut {
-        controlword: 0,
-        mode: 0,
-        target: 0,
-    }];
+    let mut outs = [NO_OUTPUT];
     turns.turn_cycle(rt, permit, &[answer], &mut outs)
 }
 

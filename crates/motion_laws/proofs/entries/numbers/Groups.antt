@@ -29,7 +29,7 @@ use Rattle.group_core.specs.declared.group.Group.{Group}
 use Rattle.group_core.specs.declared.group.Motion.{Motion}
 use Rattle.group_core.specs.declared.look.GroupLook.{GroupLook}
 use Rattle.group_core.specs.declared.reason.Reason.{Reason}
-use Rattle.group_state.specs.Diagram.{next_of}
+use Rattle.axis_state.specs.GroupDiagram.{next_of}
 use Rattle.plc_types.specs.declared.group.GroupState.{GroupState}
 use Rattle.plc_types.specs.declared.group.GroupState.TheVariants as state
 use Rattle.motion_kernel.proofs.Sizes.{by_if}

@@ -30,4 +30,7 @@ returns c s es setup whole past = record {
   halts = c.rows_slow_under_halts.ensures.rows s es setup whole past;
   lines = c.rows_follow_lines.ensures.rows s es setup whole past;
   group_halts = c.rows_follow_lines.ensures.halts s es setup whole past;
+  drives = c.targets_follow_setpoints.ensures.targets s es setup whole past;
+  spells = c.spells_begin_at_drives.ensures.spells s es setup whole past;
+  driven = c.spells_begin_at_drives.ensures.driven s es setup whole past;
 }

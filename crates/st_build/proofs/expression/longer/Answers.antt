@@ -3,7 +3,7 @@ use Rattle.std.proofs.Common.{ap, sym, ◌∙◌}
 use Rattle.st_tree.specs.declared.expression.Expr.TheFolds.{fold-roll-Expr}
 use Rattle.st_tree.specs.declared.expression.Expr.TheOpen.{Expr-F}
 use Rattle.st_tree.specs.declared.expression.Expr.TheVariants.{rolls-Chain}
-use Rattle.st_parts.specs.Parts.{Parts, expr_parts, expr_step, term_parts, term_step}
+use Rattle.st_tree.specs.Parts.{Parts, expr_parts, expr_step, term_parts, term_step}
 use Rattle.st_build.proofs.Lists.{pushed}
 use Rattle.st_build.proofs.expression.longer.Goals as goal
 

@@ -1,7 +1,7 @@
 -- The last operand is changed.
 use Rattle.std.proofs.Common.{◌≡◌, ◌++◌, ◌∷◌, []}
-use Rattle.st_parts.specs.Parts.{expr_parts, operands_parts}
-use Rattle.st_parts.specs.declared.part.Part.TheVariants as part
+use Rattle.st_tree.specs.Parts.{expr_parts, operands_parts}
+use Rattle.st_tree.specs.declared.part.Part.TheVariants as part
 use Rattle.st_build.proofs.Lists.{last_changed, on_ok_then}
 use Rattle.st_build.proofs.expression.negate_last.Goals as goal
 

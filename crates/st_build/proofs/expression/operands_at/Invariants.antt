@@ -1,7 +1,7 @@
 -- The operands so far spell the parts that were gone over, and wait.
 use Rattle.std.proofs.Common.{◌≡◌, ◌≤◌, ◌<◌, ◌++◌, ◌-◌, Bool, List, drop, length}
-use Rattle.st_parts.specs.Parts.{operands_parts}
-use Rattle.st_parts.specs.Places.{Around, Inside, Passes}
+use Rattle.st_tree.specs.Parts.{operands_parts}
+use Rattle.st_tree.specs.Places.{Around, Inside, Passes}
 use Rattle.st_build.proofs.expression.operands_at.Given as goal
 
 abbrev pub invariant-loop-alloc : goal.invariant-loop-alloc

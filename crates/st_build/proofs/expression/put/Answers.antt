@@ -1,6 +1,6 @@
 -- One operand more has its parts after.
 use Rattle.std.proofs.Common.{◌≡◌, ◌++◌, ◌∷◌, []}
-use Rattle.st_parts.specs.Parts.{expr_parts, operands_parts}
+use Rattle.st_tree.specs.Parts.{expr_parts, operands_parts}
 use Rattle.st_build.proofs.Lists.{on_ok_then, with_operand}
 use Rattle.st_build.proofs.expression.put.Goals as goal
 

@@ -1,8 +1,8 @@
 -- One task more spells what was gone over after those before, and the rest is of trees.
 use Rattle.std.proofs.Common.{◌≡◌, ◌+◌, ◌++◌, drop, length, rules, ap, sym, subst, ◌∙◌, length-append}
 use Rattle.std.specs.List.{flat_map}
-use Rattle.st_parts.specs.Parts.{blocks_of, task_names, task_parts}
-use Rattle.st_parts.specs.Places.{AreOfTrees}
+use Rattle.st_tree.specs.Parts.{blocks_of, task_names, task_parts}
+use Rattle.st_tree.specs.Places.{AreOfTrees}
 use Rattle.st_build.proofs.Lists.{joined_over, joined_push}
 use Rattle.st_build.proofs.Numbers.{numbers_joined}
 use Rattle.st_build.proofs.program.program_of.Goals as goal

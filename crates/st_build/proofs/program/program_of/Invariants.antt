@@ -1,8 +1,8 @@
 -- The tasks so far spell what was gone over, and the rest is of trees.
 use Rattle.std.proofs.Common.{◌≡◌, ◌++◌, ◌-◌, drop, length}
 use Rattle.std.specs.List.{flat_map}
-use Rattle.st_parts.specs.Parts.{blocks_of, numbers_from, task_names, task_parts}
-use Rattle.st_parts.specs.Places.{AreOfTrees}
+use Rattle.st_tree.specs.Parts.{blocks_of, numbers_from, task_names, task_parts}
+use Rattle.st_tree.specs.Places.{AreOfTrees}
 use Rattle.st_build.proofs.program.program_of.Given as goal
 
 abbrev pub invariant-loop-at : goal.invariant-loop-at

@@ -1,8 +1,8 @@
 -- A task spells what was gone over.
 use Rattle.std.proofs.Common.{◌≡◌, false, [], ◌∷◌, drop, length, subst}
-use Rattle.st_parts.specs.Parts.{body_parts, declared_parts}
-use Rattle.st_parts.specs.Places.{Declaring, Inside, Leads}
-use Rattle.st_parts.specs.declared.part.Part.TheVariants as part
+use Rattle.st_tree.specs.Parts.{body_parts, declared_parts}
+use Rattle.st_tree.specs.Places.{Declaring, Inside, Leads}
+use Rattle.st_tree.specs.declared.part.Part.TheVariants as part
 use Rattle.st_build.proofs.Tasks.{task_is}
 use Rattle.st_build.proofs.Ways.{gone_over, task_end_follows, task_follows}
 use Rattle.st_build.proofs.program.task_at.Goals as goal

@@ -1,8 +1,8 @@
 -- The variables so far spell what was gone over, and what is left is of declarations.
 use Rattle.std.proofs.Common.{◌≡◌, ◌≤◌, ◌++◌, ◌-◌, drop, length}
 use Rattle.st_build.specs.Ahead.{AreDeclared}
-use Rattle.st_parts.specs.Parts.{declared_parts, variable_names}
-use Rattle.st_parts.specs.Places.{blocks_in}
+use Rattle.st_tree.specs.Parts.{declared_parts, variable_names}
+use Rattle.st_tree.specs.Places.{blocks_in}
 use Rattle.st_build.proofs.program.variables_at.Given as goal
 
 abbrev pub invariant-loop-start : goal.invariant-loop-start

@@ -1,9 +1,9 @@
 -- One statement or branch more spells what was gone over after those before, and what follows is
 -- what the builder looks for.
 use Rattle.std.proofs.Common.{◌≡◌, ◌≤◌, ◌-◌, [], ◌∷◌, true, false, drop, length, sym, subst, ◌∙◌, refl, arith}
-use Rattle.st_parts.specs.Parts.{branch_parts, stmt_parts}
-use Rattle.st_parts.specs.Places.{Branch, Inside, Leads, Otherwise, Selected, Then}
-use Rattle.st_parts.specs.declared.part.Part.TheVariants as part
+use Rattle.st_tree.specs.Parts.{branch_parts, stmt_parts}
+use Rattle.st_tree.specs.Places.{Branch, Inside, Leads, Otherwise, Selected, Then}
+use Rattle.st_tree.specs.declared.part.Part.TheVariants as part
 use Rattle.st_build.proofs.Lists.{pushed_over}
 use Rattle.st_build.proofs.Spelled.{case_spelled, if_spelled, set_spelled}
 use Rattle.st_build.proofs.Ways.{case_else, case_end, case_otherwise, if_else, if_end, if_otherwise, on_passes, passes_on, passes_one, room_inside, room_selected}

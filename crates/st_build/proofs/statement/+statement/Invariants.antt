@@ -1,8 +1,8 @@
 -- Fewer parts are left for what lies inside. The statements and branches so far spell the parts that
 -- were gone over.
 use Rattle.std.proofs.Common.{◌≡◌, ◌≤◌, ◌++◌, ◌+◌, ◌-◌, ◌*◌, false, List, drop, length}
-use Rattle.st_parts.specs.Parts.{body_parts, branches_parts}
-use Rattle.st_parts.specs.Places.{Around, Inside, Passes, Selected}
+use Rattle.st_tree.specs.Parts.{body_parts, branches_parts}
+use Rattle.st_tree.specs.Places.{Around, Inside, Passes, Selected}
 use Rattle.st_build.proofs.statement.+statement.Given as goal
 
 abbrev pub decreases-body_at : goal.decreases-body_at

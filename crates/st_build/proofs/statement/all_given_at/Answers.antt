@@ -1,7 +1,7 @@
 -- What one key more gives spells what was gone over after those before.
 use Rattle.std.proofs.Common.{true, drop, arith}
-use Rattle.st_parts.specs.Parts.{given_parts}
-use Rattle.st_parts.specs.Places.{Inside}
+use Rattle.st_tree.specs.Parts.{given_parts}
+use Rattle.st_tree.specs.Places.{Inside}
 use Rattle.st_build.proofs.Lists.{pushed_over}
 use Rattle.st_build.proofs.Ways.{passes_on}
 use Rattle.st_build.proofs.statement.all_given_at.Goals as goal

@@ -1,7 +1,7 @@
 -- What the keys so far give spells the parts that were gone over.
 use Rattle.std.proofs.Common.{◌≡◌, ◌≤◌, ◌++◌, ◌-◌, true, List, drop, length, map}
-use Rattle.st_parts.specs.Parts.{all_of, given_parts}
-use Rattle.st_parts.specs.Places.{Around, Inside, Passes}
+use Rattle.st_tree.specs.Parts.{all_of, given_parts}
+use Rattle.st_tree.specs.Places.{Around, Inside, Passes}
 use Rattle.st_build.proofs.statement.all_given_at.Given as goal
 
 abbrev pub invariant-loop-alloc : goal.invariant-loop-alloc

@@ -3,7 +3,7 @@ use Rattle.std.proofs.Common.{◌∙◌, ◌++◌, ap, get_or, slice_set}
 use Rattle.std.specs.List.{flat_map}
 use Rattle.std.specs.Option.{option_to_list}
 use Rattle.std.proofs.lemmas.List.{take_all}
-use Rattle.cam_switch.specs.Watches.{edge_after, watch_after}
+use Rattle.switch_text.specs.Watches.{edge_after, watch_after}
 use Rattle.switch_text.specs.Lines.{edge_line}
 use Rattle.switch_text.proofs.EdgeLaws.{given-more, item-over}
 use Rattle.switch_text.proofs.lines.push_cycle.Goals as goal

@@ -2,7 +2,7 @@
 use Rattle.std.proofs.Common.{◌≡◌, ◌++◌, drop, map, take}
 use Rattle.std.specs.List.{flat_map}
 use Rattle.std.specs.Option.{option_to_list}
-use Rattle.cam_switch.specs.Watches.{edge_after, watch_after}
+use Rattle.switch_text.specs.Watches.{edge_after, watch_after}
 use Rattle.switch_text.specs.Lines.{edge_line}
 use Rattle.switch_text.proofs.lines.push_cycle.Given as goal
 

@@ -4,7 +4,7 @@ use Rattle.std.specs.List.{flat_map}
 use Rattle.std.specs.Option.{option_map, option_to_list}
 use Rattle.std.specs.Vec.{with_items}
 use Rattle.std.proofs.lemmas.List.{length-map, with_items_is}
-use Rattle.cam_switch.specs.Watches.{edge_after, watch_after}
+use Rattle.switch_text.specs.Watches.{edge_after, watch_after}
 use Rattle.motion_history.specs.Looks.{told}
 use Rattle.trace_text.specs.TraceState.{entries_of}
 use Rattle.switch_text.specs.Lines.{edge_line}

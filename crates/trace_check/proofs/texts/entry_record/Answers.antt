@@ -2,7 +2,7 @@
 use Rattle.std.specs.Prelude.{◌≡◌, IfOk, Some, slice_get}
 use Rattle.std.proofs.Common.{◌∙◌, ap, subst}
 use Rattle.motion_history.specs.Looks.{told}
-use Rattle.csv_records.specs.Records.{records_of}
+use Rattle.trace_columns.specs.Records.{records_of}
 use Rattle.trace_text.specs.Records.{padded}
 use Rattle.trace_text.specs.Trace.{entry_records}
 use Rattle.trace_check.proofs.Numbered.{get-map}

@@ -1,5 +1,5 @@
 -- This many records are read.
-use Rattle.csv_records.specs.Records.{records_of}
+use Rattle.trace_columns.specs.Records.{records_of}
 use Rattle.trace_check.proofs.Ahead.{IsAhead}
 use Rattle.trace_check.proofs.texts.record_at.Given as goal
 

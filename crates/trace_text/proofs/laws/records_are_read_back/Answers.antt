@@ -1,6 +1,6 @@
 -- What was written is read back.
 use Rattle.std.proofs.Common.{◌∙◌, sym, ap}
-use Rattle.csv_records.specs.Records.{records_of}
+use Rattle.trace_columns.specs.Records.{records_of}
 use Rattle.trace_text.proofs.back.RecordLaws.{entry-written, trace-written}
 use Rattle.trace_text.proofs.laws.records_are_read_back.Goals as goal
 

@@ -1,7 +1,7 @@
 -- What is read keeps what every trace does, and is the trace that the text is, as far as it is
 -- held.
 use Rattle.std.proofs.Common.{◌∙◌, ap, sym}
-use Rattle.csv_records.specs.Records.{records_of}
+use Rattle.trace_columns.specs.Records.{records_of}
 use Rattle.trace_text.specs.reading.Reading.{records_meaning}
 use Rattle.trace_text.proofs.read.Apart.{held-kept, held-reads}
 use Rattle.trace_text.proofs.reading.read.read_held.Goals as goal

@@ -1,7 +1,7 @@
 -- The records one after another.
 use Rattle.std.specs.Prelude.{refl}
 use Rattle.std.proofs.Common.{◌∙◌, arith}
-use Rattle.csv_records.specs.Records.{records_of}
+use Rattle.trace_columns.specs.Records.{records_of}
 use Rattle.trace_text.proofs.read.RecordLoop.{at-last, refused-at, went-on}
 use Rattle.trace_text.proofs.reading.read.read_records.Goals as goal
 

@@ -1,6 +1,6 @@
 -- This many records are taken.
 use Rattle.std.specs.Prelude.{◌≡◌, None, false}
-use Rattle.csv_records.specs.Records.{records_of}
+use Rattle.trace_columns.specs.Records.{records_of}
 use Rattle.trace_text.proofs.read.Apart.{GoesOn}
 use Rattle.trace_text.proofs.reading.read.read_records.Given as goal
 

@@ -1,3 +1,0 @@
-pub mod FirstMove
-pub mod SecondMove
-pub mod Given

@@ -1,3 +1,0 @@
-pub mod OnLaws
-pub mod WatchLaws
-pub mod EdgeLaws

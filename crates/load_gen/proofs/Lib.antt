@@ -1,2 +1,0 @@
-pub mod MachineLaws
-pub mod LoadLaws

@@ -1,5 +1,0 @@
-pub mod Draws
-pub mod Machine
-pub mod Rounds
-pub mod Load
-pub mod Counts
