@@ -18,9 +18,10 @@ from pathlib import Path
 from typing import Optional
 
 from motion_tools import command, programs
-from motion_tools.explain import hints, lines
+from motion_tools.explain import lines
 from motion_tools.explain.faults import Fault, chosen
 from motion_tools.explain.findings import Finding, words_of
+from motion_tools.explain.refusals import MOST, finding_of
 from motion_tools.explain.switch_units import small_positions
 from motion_tools.explain.texts import kind_by_text
 from motion_tools.explain.verdicts import verdict_findings
@@ -123,15 +124,11 @@ def failure(options: argparse.Namespace, output: str, text: str, machine: Machin
         found, _ = verdict_findings([options.trace], output.splitlines() or [""])
         return found
     place, rule = int(words[-2]), words[-1]
-    context = lines.Context("switches", [axis.name for axis in machine.axes])
-    fault = chosen([each for each in lines.faults_at(text, place, context)
+    axes = [axis.name for axis in machine.axes]
+    fault = chosen([each for each in lines.faults_at(text, place, lines.Context("switches", axes))
                     if each.says], place, rule) or Fault(rule, place)
-    all_lines = text.split("\n")
-    line = all_lines[place - 1] if place <= len(all_lines) else ""
-    says, cure = hints.rule(rule)
-    return [Finding("error", rule, fault.says or says,
-                    hints.cure_of("switches", fault, line) or cure, says, options.file, place,
-                    fault.column + 1, fault.length, line)]
+    more = lines.faults_below(text, place, lines.Context("switches", axes))
+    return [finding_of("switches", options.file, text, each) for each in [fault, *more[:MOST]]]
 
 
 def times(edges: str, units: Units) -> str:

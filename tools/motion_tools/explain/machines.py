@@ -8,6 +8,7 @@ from pathlib import Path
 from motion_tools.config import UNIT, units_in
 from motion_tools.explain.findings import Finding
 from motion_tools.explain.run import Run, warning
+from motion_tools.trace import Axis
 from motion_tools.units import plain
 
 COARSE = 4              # increments a cycle squared, below which a warning comes
@@ -46,13 +47,25 @@ def coarse(run: Run) -> Iterator[Finding]:
             continue
         if not history.velocity:
             continue
-        least = max(1, axis.amax // ADVISED)
         says = (f"amax of {name} is {plain(axis.amax / axis.inc, 3)} increments of "
                 f"{units.text(name, axis.inc)} a cycle squared: the drive gets the setpoint rounded "
                 f"down to increments, so its target's velocity changed by up to "
                 f"{units.text(name, history.jump, 'acceleration')} where amax is "
                 f"{units.text(name, axis.amax, 'acceleration')}")
         found = warning(run, "coarse-increment", says)
-        if units.of(name):
-            found.cure = f"{found.cure}, as {units.text(name, least)}"
+        finer = finer_increment(axis)
+        if finer * COARSE > axis.amax:
+            found.cure += (": but one by which lo and hi are numbers of 32 bits is too coarse here "
+                           "too, so take a longer cycle_us, or a nearer lo and hi")
+        elif units.of(name):
+            found.cure += f", as {units.text(name, finer)}"
         yield found
+
+
+def finer_increment(axis: Axis) -> int:
+    """An increment that is fine beside amax, of 1, 2 or 5 and zeros; not so fine that lo and hi are
+    no numbers of 32 bits."""
+    least = max(abs(axis.lo), abs(axis.hi)) // (2**31 - 1) + 1
+    steps = [digit * 10**power for power in range(19) for digit in (1, 2, 5)]
+    return max([step for step in steps if step <= axis.amax // ADVISED and step >= least],
+               default=min(step for step in steps if step >= least))

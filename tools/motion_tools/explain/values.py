@@ -34,10 +34,9 @@ def left_out(run: Run) -> Iterator[Finding]:
             continue
         seen.add((command.block.name, line))
         names = list(command.start)
-        axes = [names[int(key[3:] or 1) - 1] if key != "pos" or len(names) == 1 else ", ".join(names)
-                for key in missing]
-        ways = " and ".join(f"{key} is left out, so {axis} goes to 0"
-                            for key, axis in zip(missing, axes))
+        ways = " and ".join(
+            f"{key} is left out, so {' and '.join(names)} go to 0" if key == "pos" and len(names) > 1
+            else f"{key} is left out, so {names[int(key[3:] or 1) - 1]} goes to 0" for key in missing)
         found = warning(run, "position-left-out", f"{run.who(command.block.name)}: {ways}",
                         command.begun)
         yield run.at(found, line)
