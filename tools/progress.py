@@ -9,20 +9,23 @@ measured once; how fast this machine is, beside its other work, shows as the bui
 
 from typing import NamedTuple
 
-# Processor minutes of a crate's proof (rattle-kit-13f, Intel Xeon, 2.7 GHz, 30 November 2026; those of the
-# crates that docs/architecture.md doesn't name were measured on a slower machine beside other work, and are
-# two thirds of that). That of motion_main is nearly all its compiling, by two compilers.
+# Processor minutes of a crate's proof: rattle-kit-13f, four processors (Intel Xeon, 2.5 GHz) beside other work,
+# 1 December 2026, in a run from nothing; those of the upper crates by a run of the day before on a faster machine,
+# times 1.4. That of motion_main is nearly all its compiling, by two compilers.
 MINUTES = {
-    "trace_text": 6.0, "segment_text": 4.0, "motion_kernel": 3.5, "motion_plant": 3.5,
-    "axis_core": 2.9, "motion_main": 2.9, "motion_c": 2.6, "segment_check": 2.4, "bench_text": 2.3,
-    "kernel_invariants": 2.0, "st_check": 2.0, "motion_history": 1.9, "hot_standby": 1.8,
-    "machine_words": 1.8, "group_core": 1.7, "machine_config": 1.7, "trace_check": 1.7,
-    "outside": 1.6, "kernel_turn": 1.4, "trapezoid_plan": 1.0, "trace_columns": 1.0,
-    "axis_state": 1.0, "cia402_machine": 0.9, "command_pool": 0.9, "st_job": 0.9, "st_rounds": 0.9,
-    "blend_plan": 0.8, "kin_core": 0.6, "motion_laws": 0.5, "linear_path": 0.4, "ramp_root": 0.4,
-    "cam_table": 0.4, "fb_outputs": 0.3, "buffer_modes": 0.3, "command_changes": 0.2,
-    "command_core": 0.2, "state_events": 0.2}
-MINUTES_A_CRATE, MINUTES_A_LINE = 0.2, 0.0001      # of the others
+    "trace_text": 8.4, "segment_text": 5.6, "command_words": 5.0, "motion_kernel": 4.9,
+    "motion_plant": 4.9, "axis_core": 4.1, "motion_main": 4.1, "st_check": 3.7, "motion_c": 3.6,
+    "segment_check": 3.4, "bench_text": 3.2, "machine_config": 2.9, "kernel_invariants": 2.8,
+    "motion_history": 2.8, "st_exec": 2.7, "hot_standby": 2.5, "machine_words": 2.5,
+    "trace_check": 2.4, "outside": 2.2, "group_core": 2.1, "kernel_turn": 2.0, "plc_program": 1.7,
+    "trapezoid_plan": 1.6, "blend_plan": 1.5, "trace_columns": 1.5, "plc_types": 1.4, "st_job": 1.3,
+    "st_rounds": 1.3, "command_pool": 1.2, "setpoint_ring": 1.2, "st_grammar": 1.0, "task_run": 1.0,
+    "line_text": 0.8, "st_tokens": 0.8, "drive_jobs": 0.7, "kin_core": 0.7, "cia402_machine": 0.6,
+    "fb_outputs": 0.6, "fixed_units": 0.6, "motion_laws": 0.6, "cam_table": 0.5, "drive_sim": 0.5,
+    "follow_plan": 0.5, "linear_path": 0.5, "ramp_root": 0.5, "st_tree": 0.5, "buffer_modes": 0.4,
+    "axis_state": 0.3, "command_changes": 0.3, "command_core": 0.3, "motion_numbers": 0.3,
+    "state_events": 0.2}
+MINUTES_A_CRATE, MINUTES_A_LINE = 0.3, 0.0003      # of the others
 KEPT = 0.02
 # How much of the whole, and how many minutes at least, have to be done before the machine's own speed
 # counts more than the measured one.
