@@ -17,7 +17,9 @@ extern "C" {
 #define OTG_OK 0u      /* what was asked was done */
 #define OTG_INVALID 1u /* the generator isn't open, or a number isn't in its range: nothing changed */
 
-/* A generator. Fill lo to jmax, then call otg_open; from then on only the library changes it. */
+/* A generator. Fill lo to jmax, then call otg_open; from then on only the library changes it. The
+ * caller promises that a pointer to it isn't null, that one thread at a time uses it, and that it
+ * writes none of it itself: a changed jmax, say, changes the limits of the next step. */
 typedef struct {
     int64_t lo;      /* the least setpoint, at least -10^15 */
     int64_t hi;      /* the greatest setpoint, from lo to 10^15 */

@@ -60,7 +60,8 @@ def load(file: Optional[Path] = None) -> ctypes.CDLL:
 
 class Generator:
     """A generator, at rest at a setpoint within its limits. Raises GeneratorError where a number isn't
-    in its range (docs/otg.md)."""
+    in its range (docs/otg.md). One thread at a time calls it, and only the library writes what it
+    holds."""
 
     def __init__(self, *, lo: int, hi: int, velocity: int, acceleration: int, deceleration: int,
                  jerk: int, setpoint: int = 0, library: Optional[ctypes.CDLL] = None):

@@ -70,7 +70,7 @@ class Progress:
         self.below, self.processors, self.tail = below, processors, tail
         self.work = {crate: minutes_of(crate, lines[crate]) for crate in below}
         self.done: set[str] = set()
-        self.counted, self.since, self.estimate = -1, 0.0, 0.0
+        self.counted, self.since, self.estimate, self.pace = -1, 0.0, 0.0, 1.0
         self.reckon()
 
     def reckon(self) -> None:
@@ -106,6 +106,7 @@ class Progress:
         if len(self.done) != self.counted:
             reached, whole = self.reached(), self.whole + self.tail
             prior = max(SHARE * whole, LEAST)
-            self.estimate = (whole - reached) * (spent + prior) / (reached + prior)
+            self.pace = (spent + prior) / (reached + prior)
+            self.estimate = (whole - reached) * self.pace
             self.counted, self.since = len(self.done), spent
         return max(self.estimate - (spent - self.since), self.estimate / 5)

@@ -68,7 +68,7 @@ class Builds(unittest.TestCase):
         (self.room / "rt/rt").chmod(0o755)
         shutil.copytree(TOOLS / "motion_tools", self.top / "tools" / "motion_tools",
                         ignore=shutil.ignore_patterns("__pycache__"))
-        for name in ("build", "crates.py", "progress.py"):
+        for name in ("build", "crates.py", "progress.py", "steps.py"):
             shutil.copy(TOOLS / name, self.top / "tools")
         self.put("top/tools/stamp_libraries", "#!/bin/sh\n").chmod(0o755)
         shutil.copy(TOOLS.parent / "motion", self.top)
@@ -142,8 +142,8 @@ class Builds(unittest.TestCase):
         status, _, told = self.run_tool("tools/build", "--library")
         self.assertEqual(status, 0, told)
         self.assertRegex(told, r"4 of 4 crates proved, about .* left\n"
-                         r"motion: library 1 of 2, motion_c: about \d+ minutes left for both\n"
-                         "motion: library 2 of 2, otg\n")
+                         r"motion: library 1 of 2, motion_c; about \d+ minutes left for all\n"
+                         r"motion: library 2 of 2, otg; about \d+ minutes left for all\n")
         self.assertEqual((self.top / "crates/otg/out/libotg.a").read_text(), "otg\n")
         self.assertEqual(self.ran(), ["ci", "lib motion_c", "lib otg"])
         # the program alone is kept by its own files, and both libraries by theirs

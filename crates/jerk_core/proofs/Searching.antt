@@ -48,11 +48,11 @@ doubled_36 : doubled 36 ≡ 68719476736
 unfolding doubled
 doubled_36 = refl
 
--- the looks so far: as often the way from the least was doubled, or what is left halved
+-- the looks so far are no more: as often the way from the least was doubled, or what is left halved
 pub record Spent (way left now start : ℕ) : Type 0 where
   pub up : ℕ
   pub down : ℕ
-  pub sum : now ≡ start + (up + down)
+  pub sum : now ≤ start + (up + down)
   pub gained : doubled up ≤ max (2 * way) 1
   pub halved : (left - 1) * doubled down ≤ doubled 36
   pub few_up : up ≤ 36

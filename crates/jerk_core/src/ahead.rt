@@ -13,27 +13,24 @@ use motion_numbers::{MOST_STEP, way_fits};
 use std::sync::ledger::Ledger;
 
 /// Whether the motion with the speeds `last` and `speed` keeps the rates, and can keep them until
-/// it has come to rest within the room.
-pub fn keeps(rates: &JerkRates, room: u64, last: u64, speed: u64) -> bool
+/// it has come to rest within the room. At most one look.
+pub fn keeps<L: Ledger>(
+    rates: &JerkRates,
+    room: u64,
+    last: u64,
+    speed: u64,
+    looks: &mut Looks<L>,
+) -> bool
     requires rates { AreJerkRates rates.now }
     requires last { last ≤ 2 * MOST_STEP }
     requires speed { speed ≤ MOST_STEP }
-    ensures { IsTrue result ↔ IsKeptBy rates.now room last speed }
+    ensures value { IsTrue result ↔ IsKeptBy rates.now room last speed }
+    ensures cost { looks.new ≤ looks.old + 1 }
 {
-    speed <= rates.v
-        && speed <= last + rates.a
-        && last <= speed + rates.d
-        && way_fits(
-            last.saturating_sub(speed).saturating_sub(rates.j),
-            rates.j,
-            speed,
-        )
-        && way_fits(
-            speed.saturating_sub(last).saturating_sub(rates.j),
-            rates.j,
-            rates.v - speed,
-        )
-        && rest_fits(rates.d, rates.j, last, speed, room)
+    if !can_go_on(rates, last, speed) {
+        return false;
+    }
+    rest_fits(rates.d, rates.j, last, speed, room, looks)
 }
 
 /// The greatest speed up to `most` that may follow the motion and leaves a kept one; where none
@@ -100,8 +97,7 @@ pub fn safe_speed<L: Ledger>(
     if looks_ahead(rates, room, speed, top, looks) {
         return Some(top);
     }
-    looks.tick();
-    if !rest_fits(rates.d, rates.j, last, speed, room) {
+    if !rest_fits(rates.d, rates.j, last, speed, room, looks) {
         return None;
     }
     let least = braked(rates.d, rates.j, last, speed);
@@ -197,7 +193,8 @@ pub fn greatest_between<L: Ledger>(
     fits
 }
 
-// Whether the speed leaves a way to rest that fits. One look.
+// Whether the speed `next` after `speed` and the way to rest after it fit the room. At most one
+// look.
 fn looks_ahead<L: Ledger>(
     rates: &JerkRates,
     room: u64,
@@ -209,10 +206,12 @@ fn looks_ahead<L: Ledger>(
     requires speed { speed ≤ rates.now.v }
     requires tops { next ≤ speed + reach_of (rates.now.v - speed) rates.now.j }
     ensures value { IsTrue result ↔ ((next ≤ room) × (way_of rates.now.d rates.now.j speed next ≤ room - next)) }
-    ensures look { looks.new ≡ looks.old + 1 }
+    ensures cost { looks.new ≤ looks.old + 1 }
 {
-    looks.tick();
-    leaves_rest(rates, room, speed, next)
+    if room < next {
+        return false;
+    }
+    rest_fits(rates.d, rates.j, speed, next, room - next, looks)
 }
 
 // A speed between one that fits and one that fails: as far beyond the first as that is beyond the
@@ -225,14 +224,4 @@ fn between(least: u64, fits: u64, fails: u64) -> u64
     ensures value { result ≡ fits + min (max (fits - least) 1) ((fails - fits) / 2) }
 {
     fits + (fits - least).max(1).min((fails - fits) / 2)
-}
-
-// Whether the speed `next` after `speed` and the way to rest after it fit the room.
-fn leaves_rest(rates: &JerkRates, room: u64, speed: u64, next: u64) -> bool
-    requires rates { AreJerkRates rates.now }
-    requires speed { speed ≤ rates.now.v }
-    requires tops { next ≤ speed + reach_of (rates.now.v - speed) rates.now.j }
-    ensures { IsTrue result ↔ ((next ≤ room) × (way_of rates.now.d rates.now.j speed next ≤ room - next)) }
-{
-    next <= room && rest_fits(rates.d, rates.j, speed, next, room - next)
 }

@@ -1,6 +1,6 @@
 // Whether three setpoints are kept.
 
-ghost use Rattle.std.specs.Prelude.{◌≡◌, ◌↔◌, IsTrue, ◌≤ℤ◌, ◌+◌};
+ghost use Rattle.std.specs.Prelude.{◌≡◌, ◌↔◌, IsTrue, ◌≤ℤ◌, ◌+◌, ◌<◌, ◌≤◌};
 ghost use Rattle.jerk_core.specs.Rates.{AreJerkRates, IsKeptBy};
 ghost use Rattle.jerk_core.specs.Admissible.{AreJerkLimits, IsKeptByJerk};
 
@@ -11,7 +11,8 @@ use crate::motions::{Motion, Setpoints};
 use crate::rates::JerkRates;
 use crate::taking::{downward, rises, sizes, upward};
 use motion_numbers::MOST_STEP;
-use std::sync::ledger::Ledger;
+use std::marker::Brand;
+use std::sync::ledger::{Blank, Ledger};
 
 /// Whether the three setpoints lie within the limits, and the axis can be stopped after them with
 /// limited jerk.
@@ -19,26 +20,37 @@ pub fn is_kept(limits: &JerkLimits, at: &Setpoints) -> bool
     requires limits { AreJerkLimits limits.now }
     ensures { IsTrue result ↔ IsKeptByJerk limits.now at.now.first at.now.before at.now.current }
 {
+    is_kept_by::<Brand>(limits, at, Blank::new(1))
+}
+
+// The same for any ledger, whose counter nobody reads.
+fn is_kept_by<L: Ledger>(limits: &JerkLimits, at: &Setpoints, blank: Blank) -> bool
+    requires name { blank.name ≡ L.name }
+    requires parts { blank.parts ≡ L.parts }
+    requires some { 0 < blank.parts }
+    requires limits { AreJerkLimits limits.now }
+    ensures { IsTrue result ↔ IsKeptByJerk limits.now at.now.first at.now.before at.now.current }
+{
+    let mut looks = Looks::<L>::open(blank);
+    is_kept_counted(limits, at, &mut looks)
+}
+
+/// The same, counted: at most one look at the way to rest.
+pub fn is_kept_counted<L: Ledger>(limits: &JerkLimits, at: &Setpoints, looks: &mut Looks<L>) -> bool
+    requires limits { AreJerkLimits limits.now }
+    ensures value { IsTrue result ↔ IsKeptByJerk limits.now at.now.first at.now.before at.now.current }
+    ensures cost { looks.new ≤ looks.old + 1 }
+{
     if !is_within(limits, at) {
         return false;
     }
     if rises(at) {
-        keeps_motion(&sizes(limits), &upward(limits, at))
+        keeps_motion(&sizes(limits), &upward(limits, at), looks)
     } else if falls(at) {
-        keeps_motion(&sizes(limits), &downward(limits, at))
+        keeps_motion(&sizes(limits), &downward(limits, at), looks)
     } else {
         false
     }
-}
-
-/// The same, counted: one look at the way to rest.
-pub fn is_kept_counted<L: Ledger>(limits: &JerkLimits, at: &Setpoints, looks: &mut Looks<L>) -> bool
-    requires limits { AreJerkLimits limits.now }
-    ensures value { IsTrue result ↔ IsKeptByJerk limits.now at.now.first at.now.before at.now.current }
-    ensures look { looks.new ≡ looks.old + 1 }
-{
-    looks.tick();
-    is_kept(limits, at)
 }
 
 // Whether the last setpoint lies within the limits.
@@ -56,12 +68,13 @@ fn falls(at: &Setpoints) -> bool
 }
 
 // Whether the motion is kept, whatever its speeds are.
-fn keeps_motion(rates: &JerkRates, motion: &Motion) -> bool
+fn keeps_motion<L: Ledger>(rates: &JerkRates, motion: &Motion, looks: &mut Looks<L>) -> bool
     requires rates { AreJerkRates rates.now }
-    ensures { IsTrue result ↔ IsKeptBy rates.now motion.now.ahead motion.now.last motion.now.speed }
+    ensures cost { looks.new ≤ looks.old + 1 }
+    ensures value { IsTrue result ↔ IsKeptBy rates.now motion.now.ahead motion.now.last motion.now.speed }
 {
     if motion.last > 2 * MOST_STEP || motion.speed > MOST_STEP {
         return false;
     }
-    keeps(rates, motion.ahead, motion.last, motion.speed)
+    keeps(rates, motion.ahead, motion.last, motion.speed, looks)
 }

@@ -4,7 +4,8 @@ ghost use Rattle.std.specs.Prelude.{◌≡◌, ℕ, ◌+◌, ◌<◌};
 use std::marker::Model;
 use std::sync::ledger::{Blank, Book, Ledger, Share};
 
-/// How many looks at the way to rest have been taken so far.
+/// How many looks at the way to rest have been taken so far; a look is one call of
+/// [`way_to_rest`](crate::way_to_rest), which counts itself.
 #[derive(Drop)]
 pub struct Looks<L: Ledger> {
     book: Book<L>,

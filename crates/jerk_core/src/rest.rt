@@ -6,12 +6,30 @@ ghost use Rattle.motion_numbers.specs.Run.{run_of, reach_of};
 ghost use Rattle.jerk_core.specs.Braking.{way_of};
 ghost use Rattle.jerk_core.specs.Sums.{triangle_of, tetrahedron_of, IsRamp};
 
+use crate::looks::Looks;
 use crate::reaching::{root_about, whole_falls};
 use crate::sums::{MOST_CYCLES, MOST_FALLS, tetrahedron, triangle};
 use motion_numbers::{MOST_STEP, ramp_sum, way_fits};
+use std::sync::ledger::Ledger;
 
-/// The way to rest by braking, in internal units: the speeds of all its cycles, added up.
-pub fn way_to_rest(d: u64, j: u64, last: u64, speed: u64) -> u128
+/// The way to rest by braking, in internal units: the speeds of all its cycles, added up. One look,
+/// which it counts.
+pub fn way_to_rest<L: Ledger>(d: u64, j: u64, last: u64, speed: u64, looks: &mut Looks<L>) -> u128
+    requires d_least { 1 ≤ d }
+    requires d_most { d ≤ MOST_STEP }
+    requires j_least { 1 ≤ j }
+    requires j_most { j ≤ MOST_STEP }
+    requires last { last ≤ 2 * MOST_STEP }
+    requires tops { speed + run_of (speed - last - j) j ≤ MOST_STEP }
+    ensures value { result ≡ way_of d j last speed }
+    ensures look { looks.new ≡ looks.old + 1 }
+{
+    looks.tick();
+    way_in_parts(d, j, last, speed)
+}
+
+// The same, as the ramp and what is behind it.
+fn way_in_parts(d: u64, j: u64, last: u64, speed: u64) -> u128
     requires d_least { 1 ≤ d }
     requires d_most { d ≤ MOST_STEP }
     requires j_least { 1 ≤ j }

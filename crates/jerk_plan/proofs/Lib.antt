@@ -4,3 +4,4 @@ pub mod Headings
 pub mod Units
 pub mod Tight
 pub mod Arrivals
+pub mod Differences

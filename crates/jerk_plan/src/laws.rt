@@ -61,15 +61,25 @@ pub fn halts_rest()
         halted_of (k + n + 1) rates w v ≡ 0 }
 {}
 
-/// A velocity that is not falling, and whose change can be taken back below the wanted one, reaches
-/// it within as many cycles as it is below, and doesn't pass it.
+/// A velocity is reached, and then held. From any motion that keeps the rates it takes at most
+/// k + n + 1 cycles, where k of j have a and d together, n of d have v less the wanted speed, and n
+/// of a have the wanted one: so a faster motion slows to it. One that is not falling, and whose gain
+/// can be taken back below the wanted speed, reaches it also within as many cycles as it is below,
+/// and doesn't pass it; nor does a faster one whose fall can be taken back above it.
 pub fn velocities_are_reached()
+    ensures by_rates { (rates : JerkRates) (room wanted w v k n m : ℕ) →
+        AreJerkRates rates → IsKeptBy rates room w v → wanted ≤ rates.v →
+        rates.a + rates.d ≤ k * rates.j → rates.v - wanted ≤ n * rates.d → wanted ≤ n * rates.a →
+        k + n + 1 ≤ m → velocity_after m rates wanted w v ≡ wanted }
     ensures reached { (rates : JerkRates) (wanted w v : ℕ) →
         AreJerkRates rates → w ≤ v → v + run_of (v - w - rates.j) rates.j ≤ wanted →
         velocity_after (wanted - v) rates wanted w v ≡ wanted }
     ensures within { (rates : JerkRates) (wanted w v : ℕ) →
         AreJerkRates rates → w ≤ v → v + run_of (v - w - rates.j) rates.j ≤ wanted →
         velocity_of rates wanted w v ≤ wanted }
+    ensures above { (rates : JerkRates) (wanted w v : ℕ) →
+        AreJerkRates rates → wanted ≤ v → w ≤ v + rates.d → run_of (w - v - rates.j) rates.j ≤ v - wanted →
+        wanted ≤ velocity_of rates wanted w v }
 {}
 
 /// A velocity that is reached is held.

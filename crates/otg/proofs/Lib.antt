@@ -1,3 +1,4 @@
 pub mod Opens
 pub mod OwnMoves
 pub mod Runs
+pub mod Ends

@@ -40,7 +40,7 @@ more_safe own rates way room w v x ok within less safe =
     within.v within.a within.d within.j less safe
 
 -- the motion upward
-motion_up : (limits : JerkLimits) (first before now : ℤ) → Motion
+unfoldable pub motion_up : (limits : JerkLimits) (first before now : ℤ) → Motion
 motion_up limits first before now = record {
   ahead = unsigned_abs (limits.axis.hi -ℤ now);
   behind = unsigned_abs (now -ℤ limits.axis.lo);
@@ -48,7 +48,7 @@ motion_up limits first before now = record {
   speed = unsigned_abs (now -ℤ before);
 }
 
-counts_up : (limits : JerkLimits) (first before now : ℤ) → first ≤ℤ before → before ≤ℤ now → limits.axis.lo ≤ℤ now → now ≤ℤ limits.axis.hi →
+pub counts_up : (limits : JerkLimits) (first before now : ℤ) → first ≤ℤ before → before ≤ℤ now → limits.axis.lo ≤ℤ now → now ≤ℤ limits.axis.hi →
     IsMotionUp limits first before now (motion_up limits first before now)
 unfolding motion_up
 counts_up limits first before now rises on above below = record {

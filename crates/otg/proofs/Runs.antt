@@ -41,7 +41,7 @@ record IsDownBy (rates : JerkRates) (way w v : ℕ) (step : ℤ) : Type 0 where
   move : IsMoveSpeed rates way w v speed
 
 -- a halt at rest stands
-slowed_none : (rates : JerkRates) (w : ℕ) → slowed_of rates w 0 ≡ 0
+pub slowed_none : (rates : JerkRates) (w : ℕ) → slowed_of rates w 0 ≡ 0
 unfolding slowed_of
 slowed_none rates w = let none : braked_of rates.d rates.j w 0 ≡ 0 = braked_zero rates.d rates.j w in omega arith
 
@@ -92,14 +92,14 @@ move_down rates distance last speed step ok toward falling backward kept (down x
 move_down rates distance last speed step ok toward falling backward kept (halts not_up not_down halt) = absurd (not_down (down_of distance speed not_up toward backward))
 
 -- a wanted step that is safe is the one taken
-wanted_taken : (limits : JerkLimits) (first before now wanted step : ℤ) → IsSafeByJerk limits first before now (now +ℤ wanted) →
+pub wanted_taken : (limits : JerkLimits) (first before now wanted step : ℤ) → IsSafeByJerk limits first before now (now +ℤ wanted) →
     IsTakenByJerk limits first before now wanted step → step ≡ wanted
 wanted_taken limits first before now wanted step safe taken =
     let near : unsigned_abs (step -ℤ wanted) ≤ unsigned_abs (wanted -ℤ wanted) = taken.nearest wanted safe in
     omega (arith, ints)
 
 -- the same setpoint is safe
-safe_at : (limits : JerkLimits) (first before now next same : ℤ) → same ≡ next → IsSafeByJerk limits first before now next → IsSafeByJerk limits first before now same
+pub safe_at : (limits : JerkLimits) (first before now next same : ℤ) → same ≡ next → IsSafeByJerk limits first before now next → IsSafeByJerk limits first before now same
 safe_at limits first before now next same is safe = rw is safe
 
 -- a move's speed up is safe by the limits
@@ -152,7 +152,7 @@ own_after otg c own = record {
 }
 
 -- the motion of equal numbers
-kept_at : (rates : JerkRates) (l w v l1 w1 v1 : ℕ) → l1 ≡ l → w1 ≡ w → v1 ≡ v → IsKeptBy rates l w v → IsKeptBy rates l1 w1 v1
+pub kept_at : (rates : JerkRates) (l w v l1 w1 v1 : ℕ) → l1 ≡ l → w1 ≡ w → v1 ≡ v → IsKeptBy rates l w v → IsKeptBy rates l1 w1 v1
 kept_at rates l w v l1 w1 v1 p q r kept = rw (p, q, r) kept
 
 further_up : (otg : Otg) (c : ℤ) (x : ℕ) → IsOwnMove otg → Rises otg → HasTargetAbove otg → c ≡ (otg.current +ℤ pos x) →

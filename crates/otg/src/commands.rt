@@ -1,6 +1,6 @@
 // The commands: each sets what is wanted, in any cycle.
 
-ghost use Rattle.std.specs.Prelude.{◌≡◌, ◌≢◌, ◌↔◌};
+ghost use Rattle.std.specs.Prelude.{◌≡◌, ◌≢◌, ◌↔◌, ◌≤◌};
 ghost use Rattle.otg.specs.Open.{IsOpen};
 
 use crate::generator::Otg;
@@ -14,6 +14,7 @@ pub extern "C" fn otg_move(otg: &mut Otg, target: i64, v: u64, a: u64, d: u64, j
     ensures opened { IsOpen otg.old → IsOpen otg.new }
     ensures code { (result ≡ 0) ↔ IsOpen (record otg.old { target = target; v = v; a = a; d = d; j = j; kind = 1 }) }
     ensures set { result ≡ 0 → otg.new ≡ record otg.old { target = target; v = v; a = a; d = d; j = j; kind = 1 } }
+    ensures codes { result ≤ 1 }
     ensures same { result ≢ 0 → otg.new ≡ otg.old }
 {
     let wanted = commanded(otg, target, JerkRates { v, a, d, j }, 1);
@@ -26,6 +27,7 @@ pub extern "C" fn otg_velocity(otg: &mut Otg, velocity: i64, a: u64, d: u64, j: 
     ensures opened { IsOpen otg.old → IsOpen otg.new }
     ensures code { (result ≡ 0) ↔ IsOpen (record otg.old { target = velocity; a = a; d = d; j = j; kind = 2 }) }
     ensures set { result ≡ 0 → otg.new ≡ record otg.old { target = velocity; a = a; d = d; j = j; kind = 2 } }
+    ensures codes { result ≤ 1 }
     ensures same { result ≢ 0 → otg.new ≡ otg.old }
 {
     let rates = JerkRates { v: otg.v, a, d, j };
@@ -39,6 +41,7 @@ pub extern "C" fn otg_halt(otg: &mut Otg, d: u64, j: u64) -> u32
     ensures opened { IsOpen otg.old → IsOpen otg.new }
     ensures code { (result ≡ 0) ↔ IsOpen (record otg.old { d = d; j = j; kind = 0 }) }
     ensures set { result ≡ 0 → otg.new ≡ record otg.old { d = d; j = j; kind = 0 } }
+    ensures codes { result ≤ 1 }
     ensures same { result ≢ 0 → otg.new ≡ otg.old }
 {
     let wanted = Otg {
@@ -70,6 +73,7 @@ fn set(otg: &mut Otg, wanted: Otg) -> u32
     ensures code { (result ≡ 0) ↔ IsOpen wanted }
     ensures set { result ≡ 0 → otg.new ≡ wanted }
     ensures opened { result ≡ 0 → IsOpen otg.new }
+    ensures codes { result ≤ 1 }
     ensures same { result ≢ 0 → otg.new ≡ otg.old }
 {
     if !is_open(&wanted) {

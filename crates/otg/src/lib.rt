@@ -13,6 +13,6 @@ mod stepping;
 
 pub use commands::{otg_halt, otg_move, otg_velocity};
 pub use generator::Otg;
-pub use laws::moves_are_done;
+pub use laws::{halts_are_done, moves_are_done, velocities_are_done};
 pub use opening::{otg_is_open, otg_open};
 pub use stepping::{otg_step, step_counted};

@@ -22,6 +22,7 @@ pub extern "C" fn otg_open(otg: &mut Otg, setpoint: i64) -> u32
     ensures code { (result ≡ 0) ↔ IsOpen (resting_of otg.old setpoint) }
     ensures opened { result ≡ 0 → IsOpen otg.new }
     ensures at { result ≡ 0 → otg.new ≡ resting_of otg.old setpoint }
+    ensures codes { result ≤ 1 }
     ensures same { result ≢ 0 → otg.new ≡ otg.old }
 {
     let resting = resting(otg, setpoint);
@@ -53,7 +54,8 @@ fn resting(otg: &Otg, setpoint: i64) -> Otg
 /// Whether the generator is open: 1 where it is, else 0.
 #[unsafe(no_mangle)]
 pub extern "C" fn otg_is_open(otg: &Otg) -> u32
-    ensures { (result ≡ 1) ↔ IsOpen otg.now }
+    ensures opened { (result ≡ 1) ↔ IsOpen otg.now }
+    ensures codes { result ≤ 1 }
 {
     if is_open(otg) { 1 } else { 0 }
 }

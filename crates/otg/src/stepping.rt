@@ -1,6 +1,6 @@
 // Steps.
 
-ghost use Rattle.std.specs.Prelude.{◌≡◌, ◌↔◌, ◌+◌, ◌*◌, ◌<◌, ◌≤◌, ℤ, ◌+ℤ◌, ◌-ℤ◌, unsigned_abs};
+ghost use Rattle.std.specs.Prelude.{◌≡◌, ◌≢◌, ◌↔◌, ◌+◌, ◌*◌, ◌<◌, ◌≤◌, ℤ, ◌+ℤ◌, ◌-ℤ◌, unsigned_abs};
 ghost use Rattle.motion_numbers.specs.Ranges.{IsPlace, IsStep, IsWay};
 ghost use Rattle.otg.specs.Open.{IsOpen, IsStepOf, IsStepTaken, IsWantedStep, shifted_of};
 
@@ -19,7 +19,8 @@ pub extern "C" fn otg_step(otg: &mut Otg) -> u32
     ensures code { (result ≡ 0) ↔ IsOpen otg.old }
     ensures opened { result ≡ 0 → IsOpen otg.new }
     ensures step { result ≡ 0 → IsStepOf otg.old otg.new }
-    ensures same { result ≡ 1 → otg.new ≡ otg.old }
+    ensures codes { result ≤ 1 }
+    ensures same { result ≢ 0 → otg.new ≡ otg.old }
 {
     step_by::<Brand>(otg, Blank::new(1))
 }
@@ -32,7 +33,8 @@ fn step_by<L: Ledger>(otg: &mut Otg, blank: Blank) -> u32
     ensures code { (result ≡ 0) ↔ IsOpen otg.old }
     ensures opened { result ≡ 0 → IsOpen otg.new }
     ensures step { result ≡ 0 → IsStepOf otg.old otg.new }
-    ensures same { result ≡ 1 → otg.new ≡ otg.old }
+    ensures codes { result ≤ 1 }
+    ensures same { result ≢ 0 → otg.new ≡ otg.old }
 {
     let mut looks = Looks::<L>::open(blank);
     step_counted(otg, &mut looks)
@@ -43,7 +45,8 @@ pub fn step_counted<L: Ledger>(otg: &mut Otg, looks: &mut Looks<L>) -> u32
     ensures code { (result ≡ 0) ↔ IsOpen otg.old }
     ensures opened { result ≡ 0 → IsOpen otg.new }
     ensures step { result ≡ 0 → IsStepOf otg.old otg.new }
-    ensures same { result ≡ 1 → otg.new ≡ otg.old }
+    ensures codes { result ≤ 1 }
+    ensures same { result ≢ 0 → otg.new ≡ otg.old }
     ensures cost { looks.new ≤ looks.old + 300 }
 {
     if steps_up(otg, looks) {
@@ -60,7 +63,8 @@ fn step_by_any<L: Ledger>(otg: &mut Otg, looks: &mut Looks<L>) -> u32
     ensures code { (result ≡ 0) ↔ IsOpen otg.old }
     ensures opened { result ≡ 0 → IsOpen otg.new }
     ensures step { result ≡ 0 → IsStepOf otg.old otg.new }
-    ensures same { result ≡ 1 → otg.new ≡ otg.old }
+    ensures codes { result ≤ 1 }
+    ensures same { result ≢ 0 → otg.new ≡ otg.old }
     ensures cost { looks.new ≤ looks.old + 150 }
 {
     if !is_open_counted(otg, looks) {

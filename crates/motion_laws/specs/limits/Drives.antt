@@ -62,8 +62,8 @@ TargetsFollowSetpoints s es = (n : ℕ) (d : AxisDef) → slice_get s.axes n ≡
 abbrev pub IsAtDrive : AxisDef → AxisRow → Type 0
 IsAtDrive d r = r.setpoint ≡ place_of d.limits.lo r.input.actual r.offset d.inc
 
--- after an axis was driven or not, it stands at its drive in each row that is not driven, and in
--- the first one of a driven spell
+-- an axis that was driven before these rows, or was not, stands at its drive in each row that is
+-- not driven, and in the first row of a driven spell
 abbrev pub StandAtDrive : AxisDef → Bool → List AxisRow → Type 0
 StandAtDrive d was [] = Unit {0}
 StandAtDrive d was (r ∷ rs) =
@@ -74,8 +74,8 @@ unfoldable pub SpellsBeginAtDrives : Setup → List Entry → Type 0
 SpellsBeginAtDrives s es = (n : ℕ) (d : AxisDef) → slice_get s.axes n ≡ Some d →
     StandAtDrive d d.ready (rows_in n es)
 
--- a row is driven exactly where the axis is, by what the drive then answered: power is on, the
--- answer is operational, and the axis was driven before or its drive stands within the limits
+-- a row is driven exactly where power is on after the entries before its cycle, the drive's answer
+-- is operational, and the axis was driven before or its drive stands within the limits
 unfoldable pub RowsAreDriven : Setup → List Entry → Type 0
 RowsAreDriven s es =
     (made more : List Entry) (c n : ℕ) (rows : List AxisRow) (grows : List GroupRow)

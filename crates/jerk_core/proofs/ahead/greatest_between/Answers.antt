@@ -18,9 +18,17 @@ left_between rates room speed least most x ok slow above below gains tops low fi
     kept_after rates.v rates.a rates.d rates.j room speed least x (omega (arith, ok.d_least)) (omega (arith, ok.j_least)) slow above
     (omega arith) (omega arith) low fits.0 fits.1
 
--- the looks as the code counts them
-looked_once : (way left now next start : ℕ) → next ≡ now + 1 → Spent way left (now + 1) start → Spent way left next start
-looked_once way left now next start is spent = rw is spent
+-- no more looks than the code counts
+looked_once : (way left now next start : ℕ) → next ≤ now + 1 → Spent way left (now + 1) start → Spent way left next start
+looked_once way left now next start less spent = record {
+  up = spent.up;
+  down = spent.down;
+  sum = omega (arith, spent.sum);
+  gained = spent.gained;
+  halved = spent.halved;
+  few_up = spent.few_up;
+  few_down = spent.few_down;
+}
 
 -- all speeds are small
 small_span : (rates : JerkRates) (speed least most fails : ℕ) → AreJerkRates rates → speed ≤ rates.v → most ≤ speed + rates.a → fails ≤ most → fails ≤ least + 20000000000
@@ -52,7 +60,7 @@ loop-fails-preserved-then-looks_ahead g c =
           (omega (arith, c.between-middle.ensures.above)) (omega (arith, c.between-middle.ensures.below, c.loop-fails.invariant.within))
           c.requires.gains c.requires.tops c.requires.left (c.looks_ahead.ensures.value.0 c.if-looks_ahead.true);
       failing = c.loop-fails.invariant.failing;
-      spent = looked_once _ _ _ _ _ c.looks_ahead.ensures.look
+      spent = looked_once _ _ _ _ _ c.looks_ahead.ensures.cost
           (spent_fits c.args.least c.loop-fails.fits c.loop-fails.fails c.between-middle.result c.loop-fails.looks c.args.looks.now
           above (small_span c.args.rates.now c.args.speed c.args.least c.args.most c.loop-fails.fails c.requires.rates c.requires.speed c.requires.gains c.loop-fails.invariant.within)
           (omega arith) c.between-middle.ensures.value c.loop-fails.invariant.spent);
@@ -73,7 +81,7 @@ loop-fails-preserved g c = record {
   above = c.loop-fails.invariant.above;
   within = omega (arith, c.between-middle.ensures.below, c.loop-fails.invariant.within);
   fitting = c.loop-fails.invariant.fitting;
-  spent = looked_once _ _ _ _ _ c.looks_ahead.ensures.look
+  spent = looked_once _ _ _ _ _ c.looks_ahead.ensures.cost
       (spent_fails c.args.least c.loop-fails.fits c.loop-fails.fails c.between-middle.result c.loop-fails.looks c.args.looks.now
       (omega arith) c.between-middle.ensures.value c.loop-fails.invariant.spent);
   failing = λ left. both_ways c.looks_ahead.result c.if-looks_ahead.false (c.looks_ahead.ensures.value.1 (left.within, left.kept.fits));

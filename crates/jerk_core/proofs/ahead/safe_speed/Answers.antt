@@ -31,7 +31,7 @@ rest_fits-requires-clause-tops g c =
 pub greatest_between-requires-clause-left : goal.greatest_between-requires-clause-left
 greatest_between-requires-clause-left g c =
     let going : IsKeptBy c.args.rates.now (way_of c.args.rates.now.d c.args.rates.now.j c.args.last c.args.speed) c.args.last c.args.speed = c.can_go_on.ensures.0 c.if-not-can_go_on.false in
-    let kept : IsKeptBy c.args.rates.now c.args.room c.args.last c.args.speed = kept_in c.args.rates.now _ c.args.room c.args.last c.args.speed going (c.rest_fits.ensures.0 c.if-not-rest_fits.false) in
+    let kept : IsKeptBy c.args.rates.now c.args.room c.args.last c.args.speed = kept_in c.args.rates.now _ c.args.room c.args.last c.args.speed going (c.rest_fits.ensures.value.0 c.if-not-rest_fits.false) in
     (braking_safe c.args.rates.now c.args.room c.args.last c.args.speed c.braked-least.result c.requires.rates kept c.braked-least.ensures.value).after
 
 pub greatest_between-requires-clause-fails : goal.greatest_between-requires-clause-fails
@@ -41,7 +41,7 @@ greatest_between-requires-clause-fails g c =
 pub returns-then-top-least-clause-safe : goal.returns-then-top-least-clause-safe
 returns-then-top-least-clause-safe g c = λ x is.
     let going : IsKeptBy c.args.rates.now (way_of c.args.rates.now.d c.args.rates.now.j c.args.last c.args.speed) c.args.last c.args.speed = c.can_go_on.ensures.0 c.if-not-can_go_on.false in
-    let kept : IsKeptBy c.args.rates.now c.args.room c.args.last c.args.speed = kept_in c.args.rates.now _ c.args.room c.args.last c.args.speed going (c.rest_fits.ensures.0 c.if-not-rest_fits.false) in
+    let kept : IsKeptBy c.args.rates.now c.args.room c.args.last c.args.speed = kept_in c.args.rates.now _ c.args.room c.args.last c.args.speed going (c.rest_fits.ensures.value.0 c.if-not-rest_fits.false) in
     rw (some_is _ _ is) (braking_safe c.args.rates.now c.args.room c.args.last c.args.speed c.braked-least.result c.requires.rates kept c.braked-least.ensures.value)
 
 pub returns-then-top-least-clause-greatest : goal.returns-then-top-least-clause-greatest
@@ -54,7 +54,7 @@ returns-then-top-least-clause-greatest g c = λ x y is other.
 pub returns-clause-safe : goal.returns-clause-safe
 returns-clause-safe g c = λ x is.
     let going : IsKeptBy c.args.rates.now (way_of c.args.rates.now.d c.args.rates.now.j c.args.last c.args.speed) c.args.last c.args.speed = c.can_go_on.ensures.0 c.if-not-can_go_on.false in
-    let kept : IsKeptBy c.args.rates.now c.args.room c.args.last c.args.speed = kept_in c.args.rates.now _ c.args.room c.args.last c.args.speed going (c.rest_fits.ensures.0 c.if-not-rest_fits.false) in
+    let kept : IsKeptBy c.args.rates.now c.args.room c.args.last c.args.speed = kept_in c.args.rates.now _ c.args.room c.args.last c.args.speed going (c.rest_fits.ensures.value.0 c.if-not-rest_fits.false) in
     rw (some_is _ _ is) (between_safe c.args.rates.now c.args.room c.args.last c.args.speed c.braked-least.result c.greatest_between.result c.fastest-top.result
     c.requires.rates kept c.braked-least.ensures.value c.fastest-top.ensures.value c.greatest_between.ensures.above c.greatest_between.ensures.below c.greatest_between.ensures.left)
 

@@ -5,7 +5,7 @@ use Rattle.motion_numbers.specs.Run.{reach_of}
 use Rattle.jerk_core.specs.Braking.{way_of}
 use Rattle.jerk_core.specs.Sums.{triangle_of, tetrahedron_of, IsRamp}
 use Rattle.jerk_core.proofs.Phases.{RampOf, ramp_of, ramp_last, ramp_double, no_ramp_ends}
-use Rattle.jerk_core.proofs.rest.way_to_rest.Goals as goal
+use Rattle.jerk_core.proofs.rest.way_in_parts.Goals as goal
 
 -- where there is no ramp, what comes next is a fall
 none_ends : (cycles d j w v : ℕ) → 1 ≤ j → cycles ≡ 0 → (IsRamp d j w v cycles → ⊥) → v + min d (reach_of v j) ≤ w + j
