@@ -21,9 +21,8 @@ RT = """\
 case "$1" in
 version) echo "kit 1" ;;
 ci)
+    cut -d' ' -f6 /proc/$$/stat >"$STANDIN/session"
     echo ci >>"$STANDIN/ran"
-    echo "session $(cut -d' ' -f6 /proc/$$/stat)"
-    cat /proc/self/autogroup
     for crate in $(sed 's/[: ].*//' crates.txt); do
         sleep "$(cat "$STANDIN/seconds")"
         grep -q wrong "crates/$crate/proofs/Lib.antt" 2>/dev/null \
@@ -91,6 +90,9 @@ class Builds(unittest.TestCase):
         file = self.room / "rt" / "ran"
         return file.read_text().split("\n")[:-1] if file.exists() else []
 
+    def session(self):
+        return int((self.room / "rt" / "session").read_text())
+
     def test_motion_says_how_long_it_takes_and_how_to_see_a_trace_sooner(self):
         status, output, told = self.run_tool("motion", "check", "a")
         self.assertEqual((status, output), (0, "ran check a\n"))
@@ -156,23 +158,50 @@ class Builds(unittest.TestCase):
 
     def test_it_has_a_session_of_its_own(self):
         self.run_tool("tools/build")
-        log = (self.top / "crates/motion_main/out/build.log").read_text()
-        self.assertNotIn(f"session {os.getsid(0)}\n", log)
+        self.assertNotEqual(self.session(), os.getsid(0))
 
     def test_where_it_is_ended_its_proofs_end(self):
         self.put("rt/seconds", "30")
         with subprocess.Popen([self.top / "tools/build"], env=self.set, stderr=subprocess.PIPE, text=True) as call:
             while "log:" not in call.stderr.readline():
                 pass
-            ends = time.monotonic() + 20
+            ends = time.monotonic() + 60
             while not self.ran() and time.monotonic() < ends:
                 time.sleep(0.05)
             call.send_signal(signal.SIGTERM)
             self.assertIn("interrupted; call it again to go on", call.stderr.read())
         self.assertEqual(call.returncode, 130)
-        log = (self.top / "crates/motion_main/out/build.log").read_text()
-        session = log.split("session ")[1].split("\n")[0]
-        self.assertFalse(pathlib.Path(f"/proc/{session}").exists())
+        self.assertFalse(pathlib.Path(f"/proc/{self.session()}").exists())
+
+
+# A run of `rt ci` as it was (rattle-kit-13f, four processors of 2.5 GHz at a load of 8 to 17, 1 December 2026):
+# of each crate the minute of its end, its lines, and those that it stands on.
+RUN = {
+    "command_pool": (2.2, 2678, ""),
+    "cia402_machine": (0.9, 1491, ""),
+    "kin_core": (1.4, 1622, ""),
+    "fb_outputs": (4.9, 666, "command_pool"),
+    "axis_state": (2.1, 364, "kin_core"),
+    "linear_path": (2.9, 2266, "kin_core"),
+    "buffer_modes": (4.2, 691, "command_pool"),
+    "command_core": (6.4, 1249, "buffer_modes"),
+    "trapezoid_plan": (4.6, 2663, "command_pool kin_core"),
+    "blend_plan": (3.8, 3485, "command_pool kin_core"),
+    "axis_core": (10.6, 12925, "cia402_machine axis_state buffer_modes trapezoid_plan blend_plan"),
+    "group_core": (8.3, 7551, "axis_state linear_path buffer_modes trapezoid_plan"),
+    "command_changes": (11.0, 1490, "command_core axis_core group_core"),
+    "state_events": (11.0, 1524, "axis_core group_core"),
+    "motion_history": (5.2, 4679, ""),
+    "motion_kernel": (19.6, 13520, "fb_outputs command_changes motion_history"),
+    "motion_laws": (20.5, 19791, "state_events motion_kernel"),
+    "kernel_invariants": (24.0, 3884, "motion_kernel"),
+    "outside": (3.7, 1305, ""),
+    "machine_words": (9.0, 2449, "motion_history"),
+    "trace_columns": (6.0, 1975, ""),
+    "trace_text": (21.4, 10386, "outside machine_words trace_columns"),
+    "segment_text": (30.7, 6623, "motion_kernel trace_text"),
+    "trace_check": (25.1, 3666, "motion_kernel trace_text"),
+}
 
 
 def is_near(found, truth):
@@ -222,6 +251,17 @@ class Reckoning(unittest.TestCase):
             chosen = random.Random(seed)
             factors = {crate: chosen.uniform(0.8, 1.3) for crate in self.BELOW}
             self.assertEqual(self.worst(1.5, factors.get), [], seed)
+
+    def test_a_run_as_it_was(self):
+        ends = {crate: end for crate, (end, _, _) in RUN.items()}
+        progress = Progress({crate: low.split() for crate, (_, _, low) in RUN.items()},
+                            {crate: lines for crate, (_, lines, _) in RUN.items()}, 4)
+        whole = max(ends.values())
+        for crate in sorted(ends, key=ends.get):
+            progress.add(crate)
+            if ends[crate] > whole / 8:
+                found, truth = progress.left(ends[crate]), whole - ends[crate]
+                self.assertTrue(is_near(found, truth), (crate, found, truth))
 
     def test_what_is_kept_takes_no_time(self):
         progress = Progress(self.BELOW, self.LINES, 4)
