@@ -1,5 +1,5 @@
 -- Kept motions upward and downward: what keeps them, by numbers and by lists of setpoints.
--- for: is_kept, kept_is_stoppable, kept_motions_go_on and others
+-- for: is_kept_counted, kept_is_stoppable, kept_motions_go_on and others
 use Rattle.std.proofs.Common.{inl, inr, ◌≡◌, ℕ, ◌+◌, ◌-◌, ◌*◌, ◌≤◌, zero, suc, ℤ, pos, ◌+ℤ◌, ◌-ℤ◌, ◌≤ℤ◌, unsigned_abs, List, [], ◌∷◌, arith, refl}
 use Rattle.std.proofs.lemmas.Int.{ints, clamps}
 use Rattle.std.proofs.lemmas.Bool.{cases_lt}

@@ -1,5 +1,5 @@
 -- Kept is stoppable, by numbers and by lists; and what is kept with limited jerk is kept without.
--- for: is_kept, kept_is_stoppable, kept_motions_go_on and others
+-- for: is_kept_counted, kept_is_stoppable, kept_motions_go_on and others
 use Rattle.std.proofs.Common.{inl, inr, ◌≡◌, ◌⊎◌, ℕ, ◌+◌, ◌≤◌, ℤ, pos, ◌-ℤ◌, ◌≤ℤ◌, unsigned_abs, List, [], ◌∷◌, arith, refl}
 use Rattle.std.proofs.lemmas.Int.{ints, clamps}
 use Rattle.plc_types.specs.Limits.{AreLimits}

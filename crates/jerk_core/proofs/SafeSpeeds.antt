@@ -1,6 +1,6 @@
 -- The fastest speed that may follow a motion: where it leaves a kept motion, the motion it follows
 -- is kept.
--- for: safe_speed
+-- for: keeps, safe_speed
 use Rattle.std.proofs.Common.{◌≡◌, ℕ, ◌+◌, ◌-◌, ◌*◌, ◌≤◌, min, Bool, IsTrue, ◌↔◌, false, Some, arith}
 use Rattle.std.proofs.lemmas.Bool.{both_ways}
 use Rattle.motion_numbers.specs.Run.{reach_of}

@@ -1,5 +1,5 @@
 -- Safe setpoints upward and downward are the steps that are safe from the motion.
--- for: is_kept, kept_motions_go_on, nearest_safe_counted and others
+-- for: is_kept_counted, kept_motions_go_on, nearest_safe_counted and others
 use Rattle.std.proofs.Common.{inl, inr, ◌≡◌, ◌⊎◌, ℕ, ◌+◌, ◌-◌, ◌*◌, ◌<◌, ◌≤◌, ℤ, pos, neg_ℤ, ◌+ℤ◌, ◌-ℤ◌, ◌<ℤ◌, ◌≤ℤ◌, unsigned_abs, arith}
 use Rattle.std.proofs.lemmas.Int.{ints, clamps, by_lt_z}
 use Rattle.motion_numbers.specs.declared.TheConstants.{MOST_STEP}

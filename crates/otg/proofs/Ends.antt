@@ -275,13 +275,13 @@ halt_by_limits otg is = record {
   heads = by_lt_z otg.before otg.first
       (λ falls. inr (going_down (λ rises on. omega (arith, ints))))
       (λ rises. by_lt_z otg.current otg.before
-          (λ falls. inr (going_down (λ first on. omega (arith, ints))))
-          (λ on. inl (record {
-            rises = record { first = rises; second = on };
-            kept = kept_by_same _ _ _ _ _ _ _ _ _ is.d is.j
-                (kept_motion_up (limits_of otg) otg.first otg.before otg.current (motion_up (limits_of otg) otg.first otg.before otg.current) (jerk_limits_of otg is.opened.limits) is.opened.kept rises on
-                (counts_up (limits_of otg) otg.first otg.before otg.current rises on is.opened.kept.above is.opened.kept.below));
-          })));
+      (λ falls. inr (going_down (λ first on. omega (arith, ints))))
+      (λ on. inl (record {
+        rises = record { first = rises; second = on };
+        kept = kept_by_same _ _ _ _ _ _ _ _ _ is.d is.j
+            (kept_motion_up (limits_of otg) otg.first otg.before otg.current (motion_up (limits_of otg) otg.first otg.before otg.current) (jerk_limits_of otg is.opened.limits) is.opened.kept rises on
+            (counts_up (limits_of otg) otg.first otg.before otg.current rises on is.opened.kept.above is.opened.kept.below));
+      })));
 }
   where
     going_down : (otg.first ≤ℤ otg.before → otg.before ≤ℤ otg.current → ⊥) → FallsBy (halt_rates_of otg) otg

@@ -55,8 +55,8 @@ def coarse(run: Run) -> Iterator[Finding]:
         found = warning(run, "coarse-increment", says)
         finer = finer_increment(axis)
         if finer * COARSE > axis.amax:
-            found.cure += (": but one by which lo and hi are numbers of 32 bits is too coarse here "
-                           "too, so take a longer cycle_us, or a nearer lo and hi")
+            found.cure += ("; here one by which lo and hi are numbers of 32 bits is too coarse "
+                           "too, so take a longer cycle_us, or lo and hi nearer to 0")
         elif units.of(name):
             found.cure += f", as {units.text(name, finer)}"
         yield found
