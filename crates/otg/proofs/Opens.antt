@@ -1,5 +1,5 @@
 -- What a generator that is open keeps through its calls.
--- for: moves_are_done
+-- for: moves_are_done, halts_are_done, velocities_are_done
 use Rattle.std.proofs.Common.{inl, inr, ◌≡◌, ◌≢◌, ℕ, ◌*◌, ◌≤◌, ℤ, pos, ◌+ℤ◌, ◌-ℤ◌, ◌≤ℤ◌, unsigned_abs, Bool, true, false, nat_eq, if◌then◌else◌, arith, refl}
 use Rattle.std.proofs.lemmas.Int.{ints, clamps}
 use Rattle.std.proofs.lemmas.Bool.{cases_eq, cond-true, cond-false}

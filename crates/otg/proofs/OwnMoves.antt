@@ -1,6 +1,6 @@
 -- What a move keeps by its own rates in the way to its target the limits keep in the room, so that
 -- its step is the one taken.
--- for: moves_are_done
+-- for: moves_are_done, halts_are_done, velocities_are_done
 use Rattle.std.proofs.Common.{◌≡◌, ℕ, ◌≤◌, ℤ, pos, neg_ℤ, ◌+ℤ◌, ◌-ℤ◌, ◌≤ℤ◌, ◌<ℤ◌, unsigned_abs, arith, refl}
 use Rattle.std.proofs.lemmas.Int.{ints}
 use Rattle.motion_numbers.specs.declared.TheConstants.{MOST_STEP}

@@ -1,5 +1,5 @@
 -- A run of steps of a move: each is the move's own, so that the run is done when the move arrives.
--- for: moves_are_done
+-- for: moves_are_done, halts_are_done, velocities_are_done
 use Rattle.std.proofs.Common.{inl, inr, ◌≡◌, ◌⊎◌, ℕ, ◌+◌, ◌-◌, ◌≤◌, zero, suc, ℤ, pos, neg_ℤ, ◌+ℤ◌, ◌-ℤ◌, ◌≤ℤ◌, unsigned_abs, arith, refl, ◌∙◌}
 use Rattle.std.proofs.lemmas.Int.{ints, by_lt_z}
 use Rattle.motion_numbers.specs.Run.{cut_at_zero}
