@@ -21,6 +21,7 @@
     X(HA, Home, COMMAND) \
     X(MA, MoveAbsolute, COMMAND) \
     X(RA, MoveRelative, COMMAND) \
+    X(DA, MoveAdditive, COMMAND) \
     X(VA, MoveVelocity, VELOCITY) \
     X(TA, Halt, COMMAND) \
     X(SA, Stop, COMMAND) \
@@ -80,6 +81,7 @@ ALL_BLOCKS(SHOWN_AS)
 #define ON_Halt ON_ANY
 #define ON_MoveAbsolute ON_ANY
 #define ON_MoveRelative ON_ANY
+#define ON_MoveAdditive ON_ANY
 #define ON_MoveVelocity ON_ANY
 #define ON_GearIn ON_ANY
 #define ON_GearOut ON_ANY
@@ -117,16 +119,19 @@ static void go(void)
     ON(GroupEnable, EN, (void)0);
     cycles(1);
     ON(Home, HA, (void)0);
-    /* a move, a relative one after it, and one with a jerk: ErrorID 9 */
+    /* a move, a relative one and an additive one after it, and one with a jerk: ErrorID 9 */
     ON(MoveAbsolute, MA, f.Position = 3000; f.Velocity = 100; f.Acceleration = 5;
         f.Deceleration = 4);
     ON(MoveRelative, RA, f.Distance = -500; f.Velocity = 80; f.Acceleration = 3;
+        f.Deceleration = 3; f.BufferMode = MOTION_BUFFERED);
+    ON(MoveAdditive, DA, f.Distance = 200; f.Velocity = 80; f.Acceleration = 3;
         f.Deceleration = 3; f.BufferMode = MOTION_BUFFERED);
     ON(MoveLinearAbsolute, LN, f.Position[0] = 3000; f.Position[1] = 1500; f.Velocity = 90;
         f.Acceleration = 4; f.Deceleration = 3);
     cycles(120);
     ON(MoveAbsolute, MA, (void)0);
     ON(MoveRelative, RA, (void)0);
+    ON(MoveAdditive, DA, (void)0);
     ON(MoveLinearAbsolute, LN, (void)0);
     OFF(MoveRelative, RA);
     ON(MoveRelative, RA, f.Distance = 1; f.Velocity = 80; f.Acceleration = 3;

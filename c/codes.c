@@ -91,7 +91,7 @@ static void readings(motion *m, uint32_t code)
     want("task name", motion_task_name(m, 1, &name), code);
     want("block name", motion_block_name(m, 2, &name), code);
     want("the last block name", motion_block_name(m, 65535, &name), code);
-    want("kind name", motion_kind_name(19, &name), MOTION_UNKNOWN);
+    want("kind name", motion_kind_name(20, &name), MOTION_UNKNOWN);
     want("the last kind name", motion_kind_name(UINT32_MAX, &name), MOTION_UNKNOWN);
     want("limits", motion_axis_limits(m, 2, &limits), code);
     want("block look", motion_block_look(m, 2, &row), code);

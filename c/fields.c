@@ -138,6 +138,7 @@ IS(MOTION_GROUP_STOP, 15);
 IS(MOTION_GROUP_HALT, 16);
 IS(MOTION_MOVE_LINEAR_ABSOLUTE, 17);
 IS(MOTION_MOVE_CIRCULAR_ABSOLUTE, 18);
+IS(MOTION_MOVE_ADDITIVE, 19);
 
 IS(MOTION_MOST_AXES, 16);
 IS(MOTION_MOST_GROUPS, 4);
@@ -442,6 +443,8 @@ static void kinds(void)
         want("a block's name", motion_block_name(&m, i, &name), MOTION_OK);
         want(own, strcmp(name.text, own), 0);
     }
+    want("a kind of version 3", motion_kind_name(MOTION_MOVE_ADDITIVE, &name), MOTION_OK);
+    want("MoveAdditive", strcmp(name.text, "MoveAdditive"), 0);
     want("an axis's name", motion_axis_name(&m, 1, &name), MOTION_OK);
     want("the longest", strcmp(name.text, "Yes_16_bytes_lo"), 0);
     want("a group's name", motion_group_name(&m, 0, &name), MOTION_OK);

@@ -251,6 +251,7 @@ MC_CLASS(Stop);
 MC_CLASS(Halt);
 MC_CLASS(MoveAbsolute);
 MC_CLASS(MoveRelative);
+MC_CLASS(MoveAdditive);
 MC_CLASS(MoveVelocity);
 MC_CLASS(GearIn);
 MC_CLASS(GearOut);

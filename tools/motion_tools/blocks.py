@@ -11,7 +11,7 @@ KEYS_OF = {
     "Home": "pos", "Stop": "dec jerk", "Halt": "dec jerk", "GroupStop": "dec jerk",
     "GroupHalt": "dec jerk", "MoveVelocity": "vel acc dec jerk mode",
     "GearIn": "acc dec jerk mode master num den", "CamIn": "vel acc dec jerk mode master table",
-    **{kind: "pos vel acc dec jerk mode" for kind in MOVES},
+    **{kind: "pos vel acc dec jerk mode" for kind in (*MOVES, "MoveAdditive")},
 }
 
 

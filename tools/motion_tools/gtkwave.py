@@ -23,7 +23,7 @@ def view_of(machine: Machine, dump: str, end: int) -> str:
     lines = [f'[dumpfile] "{dump}"', "[timestart] 0", f"[size] {WIDTH + 600} 900",
              f"*{zoom:.6f} -1", "[sst_expanded] 0", "[signals_width] 220"]
     for axis in machine.axes:
-        lines += axis_view(axis.name, machine.version == 2)
+        lines += axis_view(axis.name, machine.version > 1)
     for group in machine.groups:
         lines += [COMMENT, f"-Group {group.name}", WORD, f"motion.{group.name}.state"]
     for block in machine.blocks:

@@ -114,9 +114,9 @@ def turn(where: Place, tool: str) -> Iterator[None]:
 
 def build(where: Place, tool: str, root: Path) -> None:
     """Builds the program and puts it with its script into its folder, in one step."""
-    say(tool, f"building the program unproved: {TAKES}")
     begun = time.monotonic()
     with tempfile.TemporaryDirectory(prefix="new-", dir=where.folder.parent) as room:
+        say(tool, f"building the program unproved: {TAKES}")
         made = Path(room) / "made"
         made.mkdir()
         words = grab(Path(room), made / "program", tool, root)

@@ -1,4 +1,4 @@
-"""Reads a trace of `motion`, versions 1 and 2, as a stream in constant memory.
+"""Reads a trace of `motion`, versions 1 to 3, as a stream in constant memory.
 
     trace = Trace(lines_of("run.trace"))
     trace.machine                       # the version, axes with their limits, groups, blocks
@@ -35,6 +35,7 @@ BLOCK_KINDS = ("Power", "Reset", "Home", "Stop", "Halt", "MoveAbsolute", "MoveRe
                "MoveVelocity", "GearIn", "GearOut", "CamIn", "CamOut", "GroupEnable",
                "GroupDisable", "GroupReset", "GroupStop", "GroupHalt", "MoveLinearAbsolute",
                "MoveCircularAbsolute")
+LATER_KINDS = ("MoveAdditive",)     # those that version 3 has besides
 
 
 class TraceError(Exception):
@@ -61,6 +62,8 @@ class Axis(NamedTuple):
     inc: int                # internal units in an increment of the drive
     start: int
     ready: bool
+    jmax: int = 0           # the jerk limit; no axis has one
+    modulo: bool = False    # no axis is
 
 
 class Group(NamedTuple):
@@ -84,7 +87,7 @@ class Call(NamedTuple):
     acceleration: Optional[int]
     deceleration: Optional[int]
     jerk: Optional[int]
-    mode: Optional[str]
+    mode: Optional[str]     # without the direction that an absolute move has in version 3
     follow: Optional[str]   # MASTER:NUM:DEN or MASTER:TABLE
     outputs: str            # the letters of B A D C E R that are true
     error: int
@@ -119,7 +122,7 @@ class Drive(NamedTuple):
 
 
 class Machine(NamedTuple):
-    version: int            # of the trace: 1 or 2
+    version: int            # of the trace: 1 to 3
     maker: str              # bench or run
     cycles: int             # the most cycles
     entries: int            # the most entries of the history
@@ -178,6 +181,10 @@ POINT = Column(f"(?:{DIGITS}):(?:{DIGITS})", "X:Y",
                lambda text: tuple(map(int, text.split(":"))))
 FOLLOWED = Column(f"{NAME.pattern}:(?:{DIGITS})(?::(?:{DIGITS}))?", "MASTER:NUM:DEN or "
                   "MASTER:TABLE", str)
+NONE = Column("0", "0", int)
+FALSE = Column("0", "0", "1".__eq__)
+DIRECTED = Column(f"(?:{'|'.join(BUFFER_MODES)})(?::shortest)?", "MODE or MODE:shortest",
+                  lambda text: sys.intern(text.partition(":")[0]))
 OUTPUTS = Column("B?A?D?C?E?R?", "letters of B A D C E R in this order", sys.intern)
 
 AXIS = [("name", NAME)] + [(name, NUMBER) for name in ("lo", "hi", "vmax", "amax")]
@@ -186,27 +193,41 @@ ROW = [("axis", NAME), ("statusword", WORD), ("actual position", NUMBER), ("mode
        ("state", one_of(*AXIS_STATES)), ("ErrorID", COUNT), ("driven", TRUTH),
        ("setpoint", NUMBER), ("controlword", WORD), ("target", NUMBER)]
 FORMS = {
-    "trace": [("version", one_of("1", "2")), ("maker", one_of("bench", "run")),
+    "trace": [("version", one_of("1", "2", "3")), ("maker", one_of("bench", "run")),
               ("cycles", COUNT), ("entries", COUNT)],
     "group": [("name", NAME), ("axes", joined(NAME))],
     "table": [("points", joined(POINT))],
     "task": [("name", NAME)],
-    "block": [("name", NAME), ("task", NAME), ("kind", one_of(*BLOCK_KINDS)),
-              ("axis or group", NAME)],
-    "call": [("block", NAME), ("Execute", TRUTH), ("positions", optional(joined(NUMBER))),
-             ("velocity", optional(NUMBER)), ("acceleration", optional(NUMBER)),
-             ("deceleration", optional(NUMBER)), ("jerk", optional(NUMBER)),
-             ("mode", optional(one_of(*BUFFER_MODES))), ("follow", optional(FOLLOWED)),
-             ("outputs", OUTPUTS), ("ErrorID", COUNT)],
     "cycle": [("number", COUNT)],
     "grow": [("group", NAME), ("state", one_of(*GROUP_STATES)), ("ErrorID", COUNT)],
     "end": [("task", NAME)],
     "drive": [("axis", NAME), ("setpoints taken", COUNT), ("state", one_of(*DRIVE_STATES)),
               ("actual position", NUMBER)],
 }
+
+
+def block_of(*kinds: str) -> Columns:
+    """The columns of a block in a version that has these kinds."""
+    return [("name", NAME), ("task", NAME), ("kind", one_of(*kinds)), ("axis or group", NAME)]
+
+
+def call_of(mode: Column) -> Columns:
+    """The columns of a call in a version that spells the buffer mode so."""
+    return [("block", NAME), ("Execute", TRUTH), ("positions", optional(joined(NUMBER))),
+            ("velocity", optional(NUMBER)), ("acceleration", optional(NUMBER)),
+            ("deceleration", optional(NUMBER)), ("jerk", optional(NUMBER)),
+            ("mode", optional(mode)), ("follow", optional(FOLLOWED)),
+            ("outputs", OUTPUTS), ("ErrorID", COUNT)]
+
+
+BRAKING = AXIS + [("dmax", NUMBER)] + AXIS_END
+PLACED = ROW + [("place", NUMBER)]
+OF_BOTH = {"block": block_of(*BLOCK_KINDS), "call": call_of(one_of(*BUFFER_MODES))}
 FORMS_OF_VERSION = {
-    1: {"axis": AXIS + AXIS_END, "row": ROW},
-    2: {"axis": AXIS + [("dmax", NUMBER)] + AXIS_END, "row": ROW + [("place", NUMBER)]},
+    1: {"axis": AXIS + AXIS_END, "row": ROW, **OF_BOTH},
+    2: {"axis": BRAKING, "row": PLACED, **OF_BOTH},
+    3: {"axis": BRAKING + [("jmax", NONE), ("modulo", FALSE)], "row": PLACED,
+        "block": block_of(*BLOCK_KINDS, *LATER_KINDS), "call": call_of(DIRECTED)},
 }
 HEADER = "kind,a,b,c,d,e,f,g,h,i,j,k".split(",")
 ITEMS = ("axis", "group", "table", "task", "block")
@@ -392,7 +413,7 @@ class Trace:
 def item_of(kind: str, values: list[Any], version: int) -> Any:
     """The item of the machine that a record's values are."""
     if kind == "axis":
-        dmax = [] if version == 2 else [values[4]]
+        dmax = [values[4]] if version == 1 else []
         return Axis(*values[:5], *dmax, *values[5:])
     if kind == "group":
         return Group(*values)

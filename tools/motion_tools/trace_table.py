@@ -47,7 +47,7 @@ class AxisColumns:
         self.name = axis.name
         self.factors = units.factors(axis.name)
         self.units = units.names(axis.name)
-        self.with_place = version == 2
+        self.with_place = version > 1
 
     def titles(self) -> list[str]:
         """The titles, with units in brackets where numbers are in user units."""

@@ -223,7 +223,7 @@ class AxisSignals:
         self.factors = units.factors(axis.name)
         dump.scope(axis.name)
         self.numbers = [real(dump, name) for name in ("setpoint", "velocity", "acceleration")]
-        self.place = real(dump, "place") if version == 2 else None
+        self.place = real(dump, "place") if version > 1 else None
         self.state, self.error = dump.state("state", AXIS_STATES), integer(dump, "error")
         self.driven = bit(dump, "driven")
         self.statusword, self.controlword = word(dump, "statusword"), word(dump, "controlword")

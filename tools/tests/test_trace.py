@@ -21,6 +21,12 @@ def unseen(text):
     return text.replace("axis,A", 'axis,"A"').replace("\n", "\r\n").replace("call", "\r\ncall")
 
 
+def third(text):
+    """A text of version 2 as one of version 3."""
+    return (text.replace("trace,2,", "trace,3,").replace("2,6,1,,", "2,6,1,0,0")
+            .replace("aborting,", "aborting:shortest,"))
+
+
 class Lengths(unittest.TestCase):
 
     def test_a_trace_that_is_too_long_for_the_check_says_so(self):
@@ -65,6 +71,17 @@ class Reading(unittest.TestCase):
         self.assertEqual(cycles[1].rows["A"].place, 8)
         self.assertEqual([len(cycle.calls) for cycle in cycles], [1, 0, 0, 2, 0])
 
+    def test_version_3(self):
+        first, cycles = trace_of(HOMED)
+        trace, others = trace_of(third(HOMED))
+        self.assertEqual(trace.machine, first.machine._replace(version=3))
+        self.assertEqual(others, cycles)
+        added = third(HOMED).replace(":shortest", "")
+        added = added.replace("main,MoveAbsolute,", "main,MoveAdditive,")
+        trace, others = trace_of(added)
+        self.assertEqual(trace.machine.blocks[1].kind, "MoveAdditive")
+        self.assertEqual(others, cycles)
+
     def test_cam_tables(self):
         trace, _ = trace_of(changed("task,main", "table,-5:0;0:7,,,,,,,,,,\ntask,main"))
         self.assertEqual(trace.machine.tables, [[(-5, 0), (0, 7)]])
@@ -92,7 +109,9 @@ class Reading(unittest.TestCase):
 FAULTS = [
     (HOMED, "", 0, "the text is empty"),
     ("kind,a,b", "kind,b,a", 1, "in the position of the header"),
-    ("trace,2,", "trace,3,", 2, "the version is '3', and not one of 1, 2"),
+    ("trace,2,", "trace,4,", 2, "the version is '4', and not one of 1, 2, 3"),
+    ("block,H,main,Home,A", "block,H,main,MoveAdditive,A", 5, "the kind is 'MoveAdditive'"),
+    ("aborting,,BA,0", "aborting:shortest,,BA,0", 7, "the mode is 'aborting:shortest'"),
     ("trace,2,bench", "trace,2,hand", 2, "the maker is 'hand'"),
     ("axis,A,-50,50", "axis,A,-50,+50", 3, "the hi is '+50', and not a whole number"),
     ("axis,A,", "axis,2nd,", 3, "the name is '2nd', and not a name"),
@@ -120,6 +139,15 @@ FAULTS = [
 ]
 
 
+FAULTS_OF_3 = [
+    ("2,6,1,0,0", "2,6,1,5,0", "the jmax is '5', and not 0"),
+    ("2,6,1,0,0", "2,6,1,0,1", "the modulo is '1', and not 0"),
+    ("2,6,1,0,0", "2,6,1,,", "the jmax is ''"),
+    ("aborting:shortest", "aborting:positive", "the mode is 'aborting:positive'"),
+    ("aborting:shortest", "shortest", "the mode is 'shortest'"),
+]
+
+
 class Refusing(unittest.TestCase):
 
     def test_faults_name_their_record(self):
@@ -129,6 +157,12 @@ class Refusing(unittest.TestCase):
                     trace_of(changed(old, new))
                 self.assertEqual(refusal.exception.record, record)
                 self.assertIn(told, str(refusal.exception))
+
+    def test_faults_of_version_3(self):
+        for old, new, told in FAULTS_OF_3:
+            with self.subTest(new=new), self.assertRaises(TraceError) as refusal:
+                trace_of(third(HOMED).replace(old, new, 1))
+            self.assertIn(told, str(refusal.exception))
 
     def test_place_in_version_1(self):
         text = FIRST_MOVE.read_text().replace("000f,2,\n", "000f,2,0\n")

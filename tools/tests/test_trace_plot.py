@@ -107,7 +107,7 @@ class Refusals(unittest.TestCase):
             raise trace.fault or AssertionError("nothing is refused")
 
     def test_records(self):
-        for place, line in ((0, "kind"), (1, "trace,3,bench,1,1,,,,,,,"), (2, "axis,X"),
+        for place, line in ((0, "kind"), (1, "trace,4,bench,1,1,,,,,,,"), (2, "axis,X"),
                             (2, "axis,2X,-50,500,10,4,8,2,0,1,,"), (3, "task,X,,,,,,,,,,"),
                             (4, "block,M,main,MoveAbsolute,Z,,,,,,,"), (5, "cycle,2,,,,,,,,,,"),
                             (6, "row,X,0037,0,8,Nowhere,0,1,2,000f,0,0"),

@@ -31,6 +31,7 @@ use Rattle.axis_core.proofs.KeptMoves.{eq-of}
 use Rattle.axis_core.proofs.ArrivalLaws.{AreAlike, active-runs, advances-by, both-true, ending-move, followed-move, given-alike, only-true, progress_at, reset-alike, still-driven, stop-alike, wish-move}
 use Rattle.axis_core.proofs.Blends.{first_down, first_up}
 use Rattle.axis_core.proofs.KeptRows.{Place, place-ended_by}
+use Rattle.axis_core.specs.Profiles.{profile_of}
 
 -- how a cycle goes on an axis with an active command, with the commands that wait: an error ends
 -- that, or it advances
@@ -162,7 +163,7 @@ ending-done false blends o target before ws c h g = absurd (cc)
 -- a move takes the step that it wants
 pub takes-step : (a : Axis) (w : Wanted) (next : Option Wanted) (look : AxisLook) → is_move w.kind ≡ true →
     progress_in_cycle a w next look ≡ Ok (progress_at a w next look (taken_step_in a (move_step_with (blended_with a w next) a w)))
-takes-step a w next look h = ap (λ o. progress_by_step a w next look (step_for_wish a o)) (wish-move w.kind a w next look h)
+takes-step a w next look h = ap (λ o. progress_by_step a w next look (step_for_wish a o)) (wish-move (profile_of w.kind).manner a w next look h)
 
 moved-done : IsTested → (look : AxisLook) (c : Core) (w : Wanted) → c.axis.active ≡ Some w → is_move w.kind ≡ true → is_error_stop c.axis.state ≡ false →
     EndsDone (blended_with c.axis w (slice_get c.waiting 0)) (target_of w) c.axis.setpoint (moved_fate look c) (core_after_advance look c).axis

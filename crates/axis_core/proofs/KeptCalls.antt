@@ -3,11 +3,9 @@
 use Rattle.std.specs.Prelude.{◌≡◌, refl, ℕ, Bool, true, false, ◌-ℤ◌, Option, Some, None, if◌then◌else◌}
 use Rattle.std.proofs.Common.{ap}
 use Rattle.buffer_modes.specs.Queue.{is_active_at_once}
-use Rattle.plc_types.specs.declared.kind.BlockKind.{BlockKind}
-use Rattle.plc_types.specs.declared.kind.BlockKind.TheVariants as kind
 use Rattle.command_pool.specs.declared.wanted.Wanted.{Wanted}
 use Rattle.command_pool.specs.Waiting.{last_of}
-use Rattle.axis_core.specs.Calls.{core_after_admission, core_after_command, core_after_verdict, axis_without_owner, core_after_disabling, core_after_joining, core_after_leaving, core_after_power, queue_in, core_with_queued}
+use Rattle.axis_core.specs.Calls.{core_after_command, core_after_verdict, axis_without_owner, core_after_disabling, core_after_joining, core_after_leaving, core_after_power, queue_in, core_with_queued, core_entered_in}
 use Rattle.axis_core.specs.Cores.{Core, axis_under, axis_under_by}
 use Rattle.axis_core.specs.Refusals.{Asked, refusal_of}
 use Rattle.axis_core.specs.Rows.{Stays}
@@ -17,6 +15,9 @@ use Rattle.axis_core.specs.blocks.Path.{axis_on_path}
 use Rattle.axis_core.specs.declared.axis.Axis.{Axis}
 use Rattle.axis_core.specs.declared.reason.Reason.{Reason}
 use Rattle.axis_core.proofs.KeptRows.{Place, place_of, place-begun}
+use Rattle.axis_core.specs.declared.profile.Entry.{Entry}
+use Rattle.axis_core.specs.declared.profile.Entry.TheVariants.{Joins, Leaves, Awaits}
+use Rattle.axis_core.specs.Profiles.{profile_of}
 
 -- an axis that stands at the same place stays
 stays-at : (a b : Axis) → place_of b ≡ place_of a → Stays a b
@@ -34,14 +35,13 @@ place-left : (w : Wanted) (c : Core) → place_of (core_after_leaving w c).axis 
 unfolding axis_under_by
 place-left w c = refl
 
-place-admitted : (k : BlockKind) (w : Wanted) (c : Core) → place_of (core_after_admission k w c).axis ≡ place_of c.axis
-place-admitted kind.Reset w c = refl
-place-admitted kind.GearOut w c = place-left w c
-place-admitted kind.CamOut w c = place-left w c
-place-admitted _ w c = place-joined w c
+place-entered : (x : Entry) (w : Wanted) (c : Core) → place_of (core_entered_in x w c).axis ≡ place_of c.axis
+place-entered Awaits w c = refl
+place-entered Leaves w c = place-left w c
+place-entered Joins w c = place-joined w c
 
 place-commanded : (o : Option Reason) (w : Wanted) (c : Core) → place_of (core_after_verdict o w c).axis ≡ place_of c.axis
-place-commanded None w c = place-admitted w.kind (with_target (known_target_of c.axis (last_of c.waiting) w) w) c
+place-commanded None w c = place-entered (profile_of w.kind).entry (with_target (known_target_of c.axis (last_of c.waiting) w) w) c
 place-commanded (Some r) w c = refl
 
 pub stays-commanded : (q : Asked) (c : Core) → Stays c.axis (core_after_command q c).axis

@@ -30,6 +30,7 @@ use Rattle.axis_core.specs.declared.look.AxisLook.{AxisLook}
 use Rattle.axis_core.specs.declared.reason.Reason.{Reason}
 use Rattle.axis_core.proofs.ArrivalLaws.{AreAlike, active-runs, advances-by, ending-halt, ending-move, followed-halt, followed-move, given-alike, only-true, progress_at, reset-alike, still-driven, stop-alike, wish-halt, wish-move}
 use Rattle.axis_core.proofs.KeptRows.{Place, place-ended_by}
+use Rattle.axis_core.specs.Profiles.{profile_of}
 
 -- how a cycle goes on an axis with an active command, where the drive's answer brings no error: the
 -- axis advances
@@ -108,7 +109,7 @@ moved-leads look c w e m s =
     let a = c.axis in
     let next = slice_get c.waiting 0 in
     let step = taken_step_in a (move_step_with (blended_with a w next) a w) in
-    by-progress step _ look c w e s (ap (λ o. progress_by_step a w next look (step_for_wish a o)) (wish-move w.kind a w next look m))
+    by-progress step _ look c w e s (ap (λ o. progress_by_step a w next look (step_for_wish a o)) (wish-move (profile_of w.kind).manner a w next look m))
     (ending-move w.kind a w next step look m) (followed-move w.kind (target_of w) (progress_at a w next look step) a m)
 
 pub moves-lead : (look : AxisLook) (c : Core) (w : Wanted) → IsCoreKept c → c.axis.active ≡ Some w → is_move w.kind ≡ true → nat_eq (answer_error_of c.axis look.input) 0 ≡ true →
@@ -130,7 +131,7 @@ halted-leads look c w e m s =
     let a = c.axis in
     let next = slice_get c.waiting 0 in
     let step = taken_step_in a (toward_zero (old_step_of a) w.rates.d) in
-    by-progress step _ look c w e s (ap (λ o. progress_by_step a w next look (step_for_wish a o)) (wish-halt w.kind a w next look m))
+    by-progress step _ look c w e s (ap (λ o. progress_by_step a w next look (step_for_wish a o)) (wish-halt (profile_of w.kind).manner a w next look m))
     (ending-halt w.kind a w next step look m) (followed-halt w.kind (target_of w) (progress_at a w next look step) a m)
 
 pub halts-lead : (look : AxisLook) (c : Core) (w : Wanted) → IsCoreKept c → c.axis.active ≡ Some w → is_slowing w.kind ≡ true → nat_eq (answer_error_of c.axis look.input) 0 ≡ true →

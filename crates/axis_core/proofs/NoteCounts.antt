@@ -7,16 +7,17 @@ use Rattle.plc_types.specs.declared.drive.DriveIn.{DriveIn}
 use Rattle.command_pool.specs.Waiting.{notes_of}
 use Rattle.command_pool.specs.declared.ending.Finish.{Finish}
 use Rattle.command_pool.specs.declared.ending.Finish.TheVariants as finish
-use Rattle.plc_types.specs.declared.kind.BlockKind.{BlockKind}
-use Rattle.plc_types.specs.declared.kind.BlockKind.TheVariants as kind
 use Rattle.command_pool.specs.declared.wanted.Wanted.{Wanted}
-use Rattle.axis_core.specs.Cores.{Core, axis_under, core_under_from, core_after_end, core_after_ending, core_after_error, core_after_take_over, core_taken_by}
+use Rattle.axis_core.specs.Cores.{Core, axis_under, core_under_from, core_after_end, core_after_ending, core_after_error, core_after_take_over, core_taken_in}
 use Rattle.axis_core.specs.Cycles.{advance_in_cycle, core_after_answer, core_after_going_on, core_after_advance, core_after_step}
 use Rattle.axis_core.specs.Drives.{answer_error_of, axis_at_drive}
 use Rattle.motion_numbers.specs.Ranges.{is_outside}
 use Rattle.axis_core.specs.blocks.Moves.{with_target}
 use Rattle.axis_core.specs.declared.look.AxisLook.{AxisLook}
 use Rattle.buffer_modes.specs.Laws.{AreOwners}
+use Rattle.axis_core.specs.declared.profile.Goal.{Goal}
+use Rattle.axis_core.specs.declared.profile.Goal.TheVariants.{FromBefore}
+use Rattle.axis_core.specs.Profiles.{profile_of}
 
 -- this many notes after a core, where this many were there and this many commands waited
 abbrev pub IsCounted : ℕ → Core → Core → Type 0
@@ -39,14 +40,14 @@ module _ (owners : AreOwners) where
       elim (is_outside c.axis.limits.lo t c.axis.limits.hi) as (λ o. IsCounted 1 c (if o then core_after_error 106 (record c { axis = record c.axis { active = Some w } }) else record c { axis = axis_under (with_target (Some t) w) c.axis }))
       [ true ↦ failed-count 106 (record c { axis = record c.axis { active = Some w } }) | false ↦ omega arith ]
 
-  taken_over_by-count : (k : BlockKind) (t : Option ℤ) (w : Wanted) (c : Core) → IsCounted 1 c (core_taken_by k t w c)
-  taken_over_by-count kind.MoveRelative None w c = begun_from-count w _ c
-  taken_over_by-count kind.MoveRelative (Some t) w c = omega arith
-  taken_over_by-count _ t w c = omega arith
+  taken_over_in-count : (g : Goal) (t : Option ℤ) (w : Wanted) (c : Core) → IsCounted 1 c (core_taken_in g t w c)
+  taken_over_in-count (FromBefore base) None w c = begun_from-count w _ c
+  taken_over_in-count (FromBefore base) (Some t) w c = omega arith
+  taken_over_in-count _ t w c = omega arith
 
   taken_over-count : (ws : List Wanted) (c : Core) → length (core_after_take_over ws c).notes ≤ length c.notes + length ws + 1
   taken_over-count [] c = omega arith
-  taken_over-count (w ∷ ws) c = let n = taken_over_by-count w.kind w.target w (record c { waiting = ws }) in omega arith
+  taken_over-count (w ∷ ws) c = let n = taken_over_in-count (profile_of w.kind).goal w.target w (record c { waiting = ws }) in omega arith
 
   ended-count : (f : Finish) (c : Core) → IsCounted 2 c (core_after_end f c)
   unfolding core_after_end

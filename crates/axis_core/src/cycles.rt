@@ -78,8 +78,14 @@ fn row(input: &DriveIn, axis: &Axis) -> AxisRow
     }
 }
 
-// The axis goes through a cycle, before it is shown.
-fn go_through(look: &AxisLook, axis: &mut Axis, pool: &mut CommandPool, list: u8, notes: &mut Notes)
+// What changes of the axis in a cycle, before it is shown.
+fn change_in_cycle(
+    look: &AxisLook,
+    axis: &mut Axis,
+    pool: &mut CommandPool,
+    list: u8,
+    notes: &mut Notes,
+)
     requires list { list < length pool.old }
     requires room { notes.old ≡ [] }
     requires kept { IsCoreKept (core_at axis.old pool.old list notes.old) }
@@ -131,6 +137,6 @@ pub fn cycle_and_show(
 {
     // laws
     offsets_are_small();
-    go_through(look, axis, pool, list, notes);
+    change_in_cycle(look, axis, pool, list, notes);
     row(&look.input, axis)
 }

@@ -23,7 +23,7 @@ pub enum AxisEvent {
     HomeAdmitted,
     /// MC_Home is done.
     HomeDone,
-    /// MC_MoveAbsolute, MC_MoveRelative or MC_Halt becomes active.
+    /// MC_MoveAbsolute, MC_MoveRelative, MC_MoveAdditive or MC_Halt becomes active.
     DiscreteActive,
     /// MC_MoveVelocity becomes active.
     VelocityActive,

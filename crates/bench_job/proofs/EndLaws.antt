@@ -7,7 +7,7 @@ use Rattle.bench_run.specs.InStep.{IsInStep}
 use Rattle.bench_run.specs.LegalRun.{IsLegalRun}
 use Rattle.bench_run.specs.Run.{Run, drive_ends, run_of}
 use Rattle.bench_run.specs.declared.bench.RunFault.{RunFault}
-use Rattle.bench_text.specs.BenchState.{BenchState, BrakesAsItSpeedsUp, IsBench}
+use Rattle.bench_text.specs.BenchState.{BenchState, IsBench}
 use Rattle.bench_text.specs.Reading.{ReadsBy, bench_of}
 use Rattle.drive_sim.specs.Sim.{DriveSim}
 use Rattle.job_ends.specs.Causes.{is_traced}
@@ -19,12 +19,11 @@ use Rattle.motion_history.specs.Setup.{Setup}
 use Rattle.motion_history.specs.declared.refused.TextFault.{TextFault}
 use Rattle.motion_history.specs.declared.refused.TextFault.TheVariants.{Refused}
 use Rattle.motion_history.specs.declared.refused.TextRefused.{TextRefused}
-use Rattle.motion_history.specs.declared.refused.TraceVersion.{TraceVersion}
-use Rattle.motion_history.specs.declared.refused.TraceVersion.TheVariants.{One, Two}
 use Rattle.motion_kernel.specs.KernelState.{KernelState}
 use Rattle.trace_text.specs.Trace.{CanHold}
+use Rattle.trace_text.proofs.Versions.{version-holds}
 use Rattle.trace_text.specs.writing.Writes.{Output}
-use Rattle.bench_job.specs.Again.{IsTracedRun, ReadsAgain}
+use Rattle.bench_job.specs.Again.{IsTracedRun, ReadsAgain, version_of}
 use Rattle.bench_job.specs.Ends.{EndsByBench}
 use Rattle.bench_job.specs.Headline.{RunsBy}
 use Rattle.bench_job.specs.Plans.{bench_plan}
@@ -51,13 +50,9 @@ pub runs-bench : (bench : BenchState) (s : Status) → IsTracedRun bench →
     RunsBy (λ b. b ≡ bench) s
 runs-bench bench s traced = λ b h t. subst IsTracedRun (sym h) traced
 
-held : (v : TraceVersion) (s : Setup) → (v ≡ One → All BrakesAsItSpeedsUp s.axes) → CanHold v s
-held One s h = h refl
-held Two s h = tt
-
--- a bench of version 1 can be written in it
-pub can-hold : (b : BenchState) → IsBench b → CanHold b.version b.config
-can-hold b is = held b.version b.config is.braking
+-- the trace of a bench can hold its machine
+pub can-hold : (b : BenchState) → IsBench b → CanHold (version_of b) b.config
+can-hold b is = version-holds b.version b.config is.braking
 
 -- what is read is the one bench
 pub runs-read : (reading : Result BenchState TextRefused) (bench : BenchState) (s : Status) →

@@ -13,7 +13,7 @@ use Rattle.motion_history.specs.Setup.{Setup}
 use Rattle.motion_kernel.specs.KernelState.{KernelState}
 use Rattle.trace_check.specs.KeptHistories.{IsKeptHistory, KeptHistoriesAreReadBack}
 use Rattle.trace_text.specs.declared.command.Command.TheVariants.{Bench}
-use Rattle.bench_job.specs.Again.{ReadsAgain}
+use Rattle.bench_job.specs.Again.{ReadsAgain, version_of}
 use Rattle.bench_job.proofs.EndLaws.{can-hold}
 
 pub read-again : KeptHistoriesAreReadBack → (b : BenchState) (k : KernelState)
@@ -24,6 +24,6 @@ pub read-again : KeptHistoriesAreReadBack → (b : BenchState) (k : KernelState)
 read-again read b k drives bench config many told bits =
     let kept = subst (λ (s : Setup). IsKeptHistory s k.history) config told in
     let few : cycles_of k.history < 4294967296 = omega (arith, kept.setup.within.sizes.cycles, kept.legal.cycles) in
-    read b.version Bench b.config k.history (map (drive_end (cycles_of k.history)) drives) kept
+    read (version_of b) Bench b.config k.history (map (drive_end (cycles_of k.history)) drives) kept
     (can-hold b bench) (length-map drives (drive_end (cycles_of k.history)) ∙ many)
     (ends-held (cycles_of k.history) drives few bits)

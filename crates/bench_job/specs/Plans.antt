@@ -10,6 +10,7 @@ use Rattle.job_ends.specs.declared.status.Status.{Status}
 use Rattle.job_ends.specs.declared.status.Status.TheVariants as status
 use Rattle.trace_text.specs.Trace.{trace_text}
 use Rattle.trace_text.specs.declared.command.Command.TheVariants as command
+use Rattle.bench_job.specs.Again.{version_of}
 
 -- the status that a run ends with
 abbrev pub status_of : Result (Unit {0}) RunFault → Status
@@ -17,10 +18,10 @@ status_of (Ok u) = status.Ok
 status_of (Err CyclesOver) = status.CyclesOver
 status_of (Err HistoryFull) = status.HistoryFull
 
--- the trace of a bench: that of its run, in the version of the bench
+-- the trace of a bench: that of its run, in its version
 abbrev pub bench_trace : BenchState → List ℕ
 bench_trace b =
-    trace_text b.version command.Bench b.config (run_of b).history (drive_ends (run_of b))
+    trace_text (version_of b) command.Bench b.config (run_of b).history (drive_ends (run_of b))
 
 -- what a bench leads to: the trace of its run, as far as it went
 abbrev pub plan_of_bench : BenchState → Plan

@@ -1,7 +1,7 @@
 // A bench is run, and its trace written.
 
 ghost use Rattle.std.specs.Prelude.{◌≡◌, IfOk, length, map};
-ghost use Rattle.bench_job.specs.Again.{ReadsAgain};
+ghost use Rattle.bench_job.specs.Again.{ReadsAgain, version_of};
 ghost use Rattle.bench_job.specs.Ends.{EndsByBench};
 ghost use Rattle.bench_job.specs.Headline.{RunsBy};
 ghost use Rattle.bench_job.specs.Plans as plans;
@@ -20,7 +20,9 @@ use motion_history::TextFault;
 use outside::Sink;
 use std::alloc::{AllocError, Global};
 use trace_check::kept_histories_are_read_back;
-use trace_text::{Command, DriveEndRow, TraceFault, parts_are_beginnings, write_trace};
+use trace_text::{
+    Command, DriveEndRow, TraceFault, parts_are_beginnings, trace_version, write_trace,
+};
 
 /// Runs the bench that a text is, and writes its trace. Where a number of events is given, a
 /// standby follows the kernel for this many and then takes its place: the status and the trace are
@@ -97,7 +99,7 @@ fn write_run<K: Sink>(
     requires each { length ran.now.drives.items ≡ length bench.now.config.axes }
     ensures { Writes (record { count = K.count out.old; told = K.told out.old })
         (record { count = K.count out.new; told = K.told out.new })
-        (trace_text bench.now.version Command.Bench bench.now.config ran.now.kernel.history
+        (trace_text (version_of bench.now) Command.Bench bench.now.config ran.now.kernel.history
         (map (drive_end (cycles_of ran.now.kernel.history)) ran.now.drives.items)) result }
 {
     // laws
@@ -108,7 +110,7 @@ fn write_run<K: Sink>(
     };
     write_trace(
         alloc,
-        bench.version(),
+        trace_version(bench.version(), bench.config()),
         Command::Bench,
         bench.config(),
         history,

@@ -4,18 +4,14 @@ use Rattle.std.specs.Prelude.{◌≡◌, refl, ℕ, zero, suc, ◌+◌, ◌-◌,
 use Rattle.std.specs.List.{flat_map}
 use Rattle.std.proofs.Common.{◌∙◌, sym, ap, subst, arith}
 use Rattle.std.proofs.lemmas.List.{drop_more}
-use Rattle.bench_text.specs.BenchState.{BenchState, IsLineOf}
+use Rattle.bench_text.specs.BenchState.{IsLineOf}
 use Rattle.bench_text.specs.declared.bench.BenchLine.{BenchLine}
 use Rattle.drive_sim.specs.Sim.{DriveSim}
 use Rattle.motion_history.specs.Setup.{Setup, IsSetup}
 use Rattle.motion_history.specs.declared.config.BlockDef.{BlockDef}
-use Rattle.motion_history.specs.Entries.{Entry}
-use Rattle.motion_kernel.specs.Histories.{IsLegal}
 use Rattle.motion_kernel.specs.KernelState.{KernelState}
-use Rattle.motion_laws.specs.Laws.{KeepsLaws}
-use Rattle.bench_run.specs.LegalRun.{IsLegalRun}
 use Rattle.bench_run.specs.Going.{IsGoing, run_at}
-use Rattle.bench_run.specs.Run.{Event, Run, a_cycle, events_of, is_cycle, made, made_all, next_of, room_for, run_of, tried}
+use Rattle.bench_run.specs.Run.{Event, Run, a_cycle, events_of, is_cycle, made, made_all, next_of, room_for, tried}
 use Rattle.bench_run.specs.declared.bench.RunFault.{RunFault}
 
 -- an event is made, or ends the run, by the room for it
@@ -145,16 +141,3 @@ same-lines s t xs ys e f h =
     let P : Setup → Type 0 = λ u. All (IsLineOf u) xs in
     let Q : List BenchLine → Type 0 = λ ls. All (IsLineOf t) ls in
     subst P (sym e) (subst Q (sym f) h)
-
--- the run that a kernel made of a bench is legal, as the kernel's history is
-pub legal-run : (b : BenchState) (k : KernelState) (drives : List DriveSim)
-    (ending : Result (Unit {0}) RunFault) → k.config ≡ b.config →
-    run_at k drives ending ≡ run_of b →
-    IsLegal k.config k.history → KeepsLaws k.config k.history → IsLegalRun b
-legal-run b k drives ending c r legal laws =
-    let h : k.history ≡ (run_of b).history = ap (λ (x : Run). x.history) r in
-    let L : Setup → Type 0 = λ s. IsLegal s k.history in
-    let M : List Entry → Type 0 = λ es. IsLegal b.config es in
-    let N : Setup → Type 0 = λ s. KeepsLaws s k.history in
-    let O : List Entry → Type 0 = λ es. KeepsLaws b.config es in
-    record { legal = subst M h (subst L c legal); laws = subst O h (subst N c laws) }

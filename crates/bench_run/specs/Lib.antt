@@ -4,3 +4,4 @@ pub mod LegalRun
 pub mod InStep
 pub mod Enough
 pub mod Endings
+pub use Rattle.motion_laws.specs.Laws

@@ -2,7 +2,7 @@
 
 ghost use Rattle.std.specs.Prelude.{◌≡◌, IfOk, OnOk};
 ghost use Rattle.motion_kernel.specs.Histories.{IsLegal};
-ghost use Rattle.motion_laws.specs.Laws.{KeepsLaws};
+ghost use Rattle.motion_laws.specs.Headline.{KeepsHeadline};
 ghost use Rattle.bench_run.specs.Going.{IsGoing, run_at};
 ghost use Rattle.bench_run.specs.LegalRun.{IsLegalRun};
 ghost use Rattle.bench_run.specs.Run as spec;
@@ -14,7 +14,7 @@ use hot_standby::PrimaryKernel;
 use machine_drives::{drives_can_be_opened, open_drives};
 use motion_history::OutOfMemory;
 use motion_kernel::Kernel;
-use motion_laws::histories_keep_their_laws;
+use motion_laws::histories_keep_the_headline;
 use std::alloc::Global;
 
 /// Why an event of a bench can't be made.
@@ -34,12 +34,12 @@ pub struct Ran {
     pub ending: Result<(), RunFault>,
 }
 
-/// The history of a kernel is legal, and keeps the laws of the machine. Nothing runs.
+/// The history of a kernel is legal, and its motion is as the headline says. Nothing runs.
 pub fn histories_are_legal(kernel: &Kernel)
     ensures legal { IsLegal kernel.now.config kernel.now.history }
-    ensures laws { KeepsLaws kernel.now.config kernel.now.history }
+    ensures motion { KeepsHeadline kernel.now.config kernel.now.history }
 {
-    histories_keep_their_laws();
+    histories_keep_the_headline();
     let _ = kernel.history();
 }
 

@@ -16,3 +16,4 @@ pub use laws::{
     runs_end_for_their_cause,
 };
 pub use motion_history::OutOfMemory;
+pub use motion_laws::histories_keep_their_laws;

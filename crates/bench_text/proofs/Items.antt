@@ -16,7 +16,7 @@ use Rattle.motion_history.specs.Faults.{axis_fault, block_fault, group_fault, na
 use Rattle.motion_history.specs.Setup.{Setup}
 use Rattle.motion_history.specs.declared.drives.DriveDef.{DriveDef}
 use Rattle.motion_history.specs.declared.refused.TraceVersion.{TraceVersion}
-use Rattle.motion_history.specs.declared.refused.TraceVersion.TheVariants.{One, Two}
+use Rattle.motion_history.specs.declared.refused.TraceVersion.TheVariants.{One, Two, Three}
 use Rattle.bench_text.specs.BenchState.{BrakesAsItSpeedsUp, IsLineOf}
 use Rattle.bench_text.specs.Drives.{drive_meaning, item_rules}
 use Rattle.bench_text.specs.Events.{cycle_meaning, end_meaning}
@@ -69,21 +69,21 @@ task-axes s (name ∷ []) u h =
     ap (λ (v : Setup). v.axes) (sym is)
 task-axes s (name ∷ other ∷ more) u h = absurd (cc)
 
-pub block-axes : (s : Setup) (words : List (List ℕ)) (u : Setup) → block_meaning s words ≡ Ok u → u.axes ≡ s.axes
+pub block-axes : (v : TraceVersion) (s : Setup) (words : List (List ℕ)) (u : Setup) → block_meaning v s words ≡ Ok u → u.axes ≡ s.axes
 unfolding block_meaning
-block-axes s [] u h = absurd (cc)
-block-axes s (name ∷ []) u h = absurd (cc)
-block-axes s (name ∷ task ∷ []) u h = absurd (cc)
-block-axes s (name ∷ task ∷ kind ∷ []) u h = absurd (cc)
-block-axes s (name ∷ of_task ∷ of_kind ∷ of_object ∷ []) u h =
+block-axes v s [] u h = absurd (cc)
+block-axes v s (name ∷ []) u h = absurd (cc)
+block-axes v s (name ∷ task ∷ []) u h = absurd (cc)
+block-axes v s (name ∷ task ∷ kind ∷ []) u h = absurd (cc)
+block-axes v s (name ∷ of_task ∷ of_kind ∷ of_object ∷ []) u h =
     let free = bind_ok (broken_by rule_of (name_fault s name)) _ u h in
     let task = bind_ok (task_named s of_task) _ u free.2 in
-    let kind = bind_ok (kind_of of_kind) _ u task.2 in
+    let kind = bind_ok (kind_of v of_kind) _ u task.2 in
     let object = bind_ok (object_named s kind.0 of_object) _ u kind.2 in
     let fit = bind_ok (broken_by rule_of (block_fault s name task.0 kind.0 object.0)) _ u object.2 in
     let is = ok_is _ _ u refl fit.2 in
     ap (λ (v : Setup). v.axes) (sym is)
-block-axes s (name ∷ of_task ∷ of_kind ∷ of_object ∷ other ∷ more) u h = absurd (cc)
+block-axes v s (name ∷ of_task ∷ of_kind ∷ of_object ∷ other ∷ more) u h = absurd (cc)
 
 -- ---- axes
 
@@ -132,15 +132,16 @@ even-axis s name lo hi vmax amax behind u h =
     let P : Limits → Type 0 = λ k. k.dmax ≡ k.amax in
     record { added = is.2.added; axes = is.2.axes; braking = λ one. subst P (sym is.2.limits) even }
 
-other-axis : (s : Setup) (name : List ℕ) (limits behind : List (List ℕ)) (u : Setup) → axis_added s name limits behind ≡ Ok u → AddsAxis Two s u
-other-axis s name limits behind u h =
+other-axis : (version : TraceVersion) → (version ≡ One → ⊥) → (s : Setup) (name : List ℕ) (limits behind : List (List ℕ)) (u : Setup) → axis_added s name limits behind ≡ Ok u → AddsAxis version s u
+other-axis version other s name limits behind u h =
     let is = axis_added-is s name limits behind u h in
-    record { added = is.2.added; axes = is.2.axes; braking = λ one. absurd (cc) }
+    record { added = is.2.added; axes = is.2.axes; braking = λ one. absurd (other one) }
 
 pub axis-adds : (version : TraceVersion) (s : Setup) (words : List (List ℕ)) (u : Setup) → axis_meaning version s words ≡ Ok u → AddsAxis version s u
 unfolding axis_meaning
 axis-adds One s (name ∷ lo ∷ hi ∷ vmax ∷ amax ∷ behind) u h = even-axis s name lo hi vmax amax behind u h
-axis-adds Two s (name ∷ lo ∷ hi ∷ vmax ∷ amax ∷ dmax ∷ behind) u h = other-axis s name (lo ∷ hi ∷ vmax ∷ amax ∷ dmax ∷ []) behind u h
+axis-adds Two s (name ∷ lo ∷ hi ∷ vmax ∷ amax ∷ dmax ∷ behind) u h = other-axis Two (λ one. cc) s name (lo ∷ hi ∷ vmax ∷ amax ∷ dmax ∷ []) behind u h
+axis-adds Three s (name ∷ lo ∷ hi ∷ vmax ∷ amax ∷ dmax ∷ behind) u h = other-axis Three (λ one. cc) s name (lo ∷ hi ∷ vmax ∷ amax ∷ dmax ∷ []) behind u h
 axis-adds version s _ u h = absurd (cc)
 
 -- ---- drives

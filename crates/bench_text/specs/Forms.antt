@@ -4,7 +4,7 @@ use Rattle.std.specs.List.{find}
 use Rattle.std.specs.Option.{option_map_or}
 use Rattle.std.specs.Str.{bytes_eq}
 use Rattle.motion_history.specs.declared.refused.TraceVersion.{TraceVersion}
-use Rattle.motion_history.specs.declared.refused.TraceVersion.TheVariants.{One, Two}
+use Rattle.motion_history.specs.declared.refused.TraceVersion.TheVariants.{One}
 use Rattle.bench_text.specs.declared.form.Form.{Form}
 use Rattle.bench_text.specs.declared.form.Form.TheVariants as form
 use Rattle.bench_text.specs.declared.form.Part.{Part}
@@ -48,11 +48,11 @@ is_part Machine Machine = true
 is_part Events Events = true
 is_part _ _ = false
 
--- how many words stand after the first, at least: an axis has its braking limit in version 2
+-- how many words stand after the first, at least: an axis has its braking limit from version 2 on
 abbrev pub least_of : TraceVersion → Form → ℕ
 least_of version form.Limit = 2
 least_of One form.Axis = 7
-least_of Two form.Axis = 8
+least_of version form.Axis = 8
 least_of version form.Drive = 2
 least_of version form.Group = 3
 least_of version form.Table = 1
@@ -67,7 +67,7 @@ least_of version form.End = 1
 abbrev pub most_of : TraceVersion → Form → Option ℕ
 most_of version form.Limit = Some 2
 most_of One form.Axis = Some 8
-most_of Two form.Axis = Some 9
+most_of version form.Axis = Some 9
 most_of version form.Drive = None
 most_of version form.Group = Some 7
 most_of version form.Table = None

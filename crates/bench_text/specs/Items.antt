@@ -16,7 +16,7 @@ use Rattle.motion_history.specs.Faults.{axis_fault, block_fault, group_fault, na
 use Rattle.motion_history.specs.Members.{group_of}
 use Rattle.motion_history.specs.Setup.{Setup}
 use Rattle.motion_history.specs.declared.refused.TraceVersion.{TraceVersion}
-use Rattle.motion_history.specs.declared.refused.TraceVersion.TheVariants.{One, Two}
+use Rattle.motion_history.specs.declared.refused.TraceVersion.TheVariants.{One}
 use Rattle.bench_text.specs.Named.{task_named}
 use Rattle.bench_text.specs.declared.axis.Placed.{Placed}
 use Rattle.bench_text.specs.Drives.{item_rules}
@@ -75,11 +75,11 @@ axis_added s name limits behind = do
   })
 
 -- `axis NAME LO HI VMAX AMAX INC START` in version 1, where the axis brakes as hard as it speeds
--- up, `axis NAME LO HI VMAX AMAX DMAX INC START` in version 2, or the same with `ready`
+-- up, `axis NAME LO HI VMAX AMAX DMAX INC START` in versions 2 and 3, or the same with `ready`
 unfoldable pub axis_meaning : TraceVersion → Setup → List (List ℕ) → Result Setup ℕ
 axis_meaning One s (name ∷ lo ∷ hi ∷ vmax ∷ amax ∷ behind) =
     axis_added s name (lo ∷ hi ∷ vmax ∷ amax ∷ amax ∷ []) behind
-axis_meaning Two s (name ∷ lo ∷ hi ∷ vmax ∷ amax ∷ dmax ∷ behind) =
+axis_meaning version s (name ∷ lo ∷ hi ∷ vmax ∷ amax ∷ dmax ∷ behind) =
     axis_added s name (lo ∷ hi ∷ vmax ∷ amax ∷ dmax ∷ []) behind
 axis_meaning version s _ = Err wrong_count
 
@@ -102,12 +102,12 @@ table_meaning s words = do
   points ← each_of point words
   table_added item_rules s points
 
--- `block NAME TASK KIND AXIS-OR-GROUP`
-unfoldable pub block_meaning : Setup → List (List ℕ) → Result Setup ℕ
-block_meaning s (name ∷ of_task ∷ of_kind ∷ of_object ∷ []) = do
+-- `block NAME TASK KIND AXIS-OR-GROUP`; the version has the kind
+unfoldable pub block_meaning : TraceVersion → Setup → List (List ℕ) → Result Setup ℕ
+block_meaning version s (name ∷ of_task ∷ of_kind ∷ of_object ∷ []) = do
   _ ← broken_by rule_of (name_fault s name)
   task ← task_named s of_task
-  kind ← kind_of of_kind
+  kind ← kind_of version of_kind
   object ← object_named s kind of_object
   _ ← broken_by rule_of (block_fault s name task kind object)
   Ok (record s {
@@ -118,4 +118,4 @@ block_meaning s (name ∷ of_task ∷ of_kind ∷ of_object ∷ []) = do
       object = object;
     } ∷ [];
   })
-block_meaning s _ = Err wrong_count
+block_meaning version s _ = Err wrong_count

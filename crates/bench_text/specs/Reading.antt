@@ -14,7 +14,7 @@ use Rattle.motion_history.specs.declared.refused.TextFault.{TextFault}
 use Rattle.motion_history.specs.declared.refused.TextFault.TheVariants.{Refused, OutOfMemory}
 use Rattle.motion_history.specs.declared.refused.TextRefused.{TextRefused}
 use Rattle.motion_history.specs.declared.refused.TraceVersion.{TraceVersion}
-use Rattle.motion_history.specs.declared.refused.TraceVersion.TheVariants.{One, Two}
+use Rattle.motion_history.specs.declared.refused.TraceVersion.TheVariants.{One, Two, Three}
 use Rattle.bench_text.specs.BenchState.{BenchState}
 use Rattle.bench_text.specs.Calls.{call_meaning}
 use Rattle.bench_text.specs.Drives.{drive_meaning, is_stated}
@@ -47,17 +47,18 @@ opening = record {
   lines = [];
 }
 
--- the versions are 1 and 2
+-- the versions are 1, 2 and 3
 abbrev pub version_numbered : List ℕ → Option TraceVersion
 version_numbered number =
     if says number (codes "1") then Some One
-    else if says number (codes "2") then Some Two else None
+    else if says number (codes "2") then Some Two
+    else if says number (codes "3") then Some Three else None
 
 -- a bench begins with the word `motion-bench`
 unfoldable pub is_bench : List ℕ → Bool
 is_bench word = says word (codes "motion-bench")
 
--- `motion-bench 1` or `motion-bench 2`
+-- `motion-bench 1`, `motion-bench 2` or `motion-bench 3`
 unfoldable pub version_of : List (List ℕ) → Result TraceVersion ℕ
 version_of (word ∷ number ∷ []) = do
   _ ← broken_unless (is_bench word) no_version
@@ -131,7 +132,7 @@ words_meaning s form.Drive words = drives_meaning s words
 words_meaning s form.Group words = with_setup s (group_meaning s.setup words)
 words_meaning s form.Table words = with_setup s (table_meaning s.setup words)
 words_meaning s form.Task words = with_setup s (task_meaning s.setup words)
-words_meaning s form.Block words = with_setup s (block_meaning s.setup words)
+words_meaning s form.Block words = with_setup s (block_meaning s.version s.setup words)
 words_meaning s form.Go words = go_meaning s
 words_meaning s form.Call words = with_line s (call_meaning s.setup words)
 words_meaning s form.Cycle words = with_line s (cycle_meaning words)

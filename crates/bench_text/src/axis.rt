@@ -34,7 +34,7 @@ pub fn add_axis(
             };
             place_axis(machine, name, &[lo, hi, vmax, amax, amax], behind)
         }
-        TraceVersion::Two => {
+        TraceVersion::Two | TraceVersion::Three => {
             let [name, lo, hi, vmax, amax, dmax, behind @ ..] = words else {
                 return Err(LineFault::Rule(WRONG_COUNT));
             };

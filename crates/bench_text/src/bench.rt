@@ -76,7 +76,7 @@ impl Bench {
         }
     }
 
-    /// Its version, 1 or 2.
+    /// Its version, 1 to 3.
     pub fn version(&self) -> TraceVersion
         ensures { result ≡ self.now.version }
     {

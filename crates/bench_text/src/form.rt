@@ -112,7 +112,7 @@ fn least_of(version: TraceVersion, form: Form) -> usize
 {
     match (form, version) {
         (Form::Axis, TraceVersion::One) => 7,
-        (Form::Axis, TraceVersion::Two) => 8,
+        (Form::Axis, _) => 8,
         (Form::Block, _) => 4,
         (Form::Group, _) => 3,
         (Form::Limit | Form::Drive | Form::Call, _) => 2,
@@ -127,7 +127,7 @@ fn most_of(version: TraceVersion, form: Form) -> Option<usize>
 {
     match (form, version) {
         (Form::Axis, TraceVersion::One) => Some(8),
-        (Form::Axis, TraceVersion::Two) => Some(9),
+        (Form::Axis, _) => Some(9),
         (Form::Group, _) => Some(7),
         (Form::Block, _) => Some(4),
         (Form::Limit, _) => Some(2),

@@ -11,7 +11,7 @@ use machine_words::{
     ItemRules, OUT_OF_RANGE, TOO_MANY, WRONG_COUNT, WRONG_NAME, axes_named, free_name, kind_of,
     number, object_named, refusal_of,
 };
-use motion_history::{Builder, MOST_CYCLES, MOST_ENTRIES};
+use motion_history::{Builder, MOST_CYCLES, MOST_ENTRIES, TraceVersion};
 use std::alloc::Global;
 
 /// The rules that the numbers of an item break.
@@ -65,15 +65,19 @@ pub fn add_table(alloc: Global, machine: &mut Builder, words: &[&[u8]]) -> Resul
 
 /// Adds the block of a line.
 #[tactic(auto, unfolding(crate::specs::Items::block_meaning))]
-pub fn add_block(machine: &mut Builder, words: &[&[u8]]) -> Result<(), LineFault>
-    ensures { Takes (spec.block_meaning machine.old (texts words.now)) machine.new result }
+pub fn add_block(
+    machine: &mut Builder,
+    version: TraceVersion,
+    words: &[&[u8]],
+) -> Result<(), LineFault>
+    ensures { Takes (spec.block_meaning version machine.old (texts words.now)) machine.new result }
 {
     let [name, task, kind, object] = words else {
         return Err(LineFault::Rule(WRONG_COUNT));
     };
     free_name(machine, name)?;
     let task = task_named(machine, task)?;
-    let kind = kind_of(kind)?;
+    let kind = kind_of(version, kind)?;
     let object = object_named(machine, kind, object)?;
     match machine.block(name, task, kind, object) {
         Ok(_) => Ok(()),

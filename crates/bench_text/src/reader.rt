@@ -131,7 +131,7 @@ impl BenchReader {
             Form::Group => self.read_group(words),
             Form::Table => self.read_table(words),
             Form::Task => add_task(&mut self.machine, words),
-            Form::Block => add_block(&mut self.machine, words),
+            Form::Block => add_block(&mut self.machine, self.version, words),
             Form::Go => self.go(),
             Form::Call => self.read_call(words),
             Form::Cycle => self.read_cycles(words),

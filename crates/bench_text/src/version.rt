@@ -37,6 +37,8 @@ fn version_numbered(number: &[u8]) -> Option<TraceVersion>
         Some(TraceVersion::One)
     } else if says(number, b"2") {
         Some(TraceVersion::Two)
+    } else if says(number, b"3") {
+        Some(TraceVersion::Three)
     } else {
         None
     }

@@ -8,7 +8,7 @@ use crate::sizes::step_size;
 use command_pool::Rates;
 use kin_core::steps_fall_toward_zero;
 use motion_numbers::{MOST_STEP, MOST_WAY, searches_find_the_greatest};
-use ramp_root::Steps;
+use ramp_root::Counter;
 use std::marker::Brand;
 use std::sync::ledger::{Blank, Ledger};
 
@@ -66,7 +66,7 @@ fn blend_from<L: Ledger>(
     ensures ahead { pos 0 ≤ℤ result.0 }
     ensures small { result.0 ≤ℤ pos MOST_STEP }
 {
-    let mut steps = Steps::<L>::open(blank);
+    let mut steps = Counter::<L>::open(blank);
     blend_step_counted(l1, l2, old, first, second, vb, &mut steps)
 }
 
@@ -78,7 +78,7 @@ pub fn blend_step_counted<L: Ledger>(
     first: &Rates,
     second: &Rates,
     vb: i64,
-    steps: &mut Steps<L>,
+    steps: &mut Counter<L>,
 ) -> (i64, bool)
     requires first_rates { AreRates first.now }
     requires second_rates { AreRates second.now }

@@ -7,7 +7,7 @@ use crate::reaches::{reach_up_to, slowed_up_to};
 use crate::risen::greatest_risen;
 use command_pool::Rates;
 use motion_numbers::{MOST_STEP, MOST_WAY, ways_to_rest};
-use ramp_root::Steps;
+use ramp_root::Counter;
 use std::sync::ledger::Ledger;
 
 // The greatest step within the acceleration that passes the first target.
@@ -18,7 +18,7 @@ pub(crate) fn greatest_passing<L: Ledger>(
     first: &Rates,
     second: &Rates,
     vb: u64,
-    steps: &mut Steps<L>,
+    steps: &mut Counter<L>,
 ) -> u64
     requires first_rates { AreRates first.now }
     requires second_rates { AreRates second.now }

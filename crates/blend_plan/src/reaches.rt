@@ -5,12 +5,12 @@ ghost use Rattle.blend_plan.specs.Sums.{above_of};
 
 use kin_core::ramp_sum;
 use motion_numbers::{MOST_STEP, MOST_WAY, ways_to_rest};
-use ramp_root::{Steps, greatest_count_counted, reach, sums_of_ramps};
+use ramp_root::{Counter, greatest_count_counted, reach, sums_of_ramps};
 use std::sync::ledger::Ledger;
 
 // The greatest step up to `most` from which slowing by `d` each cycle to rest needs no more than
 // the way. While an axis speeds up or cruises, `most` is the answer.
-pub(crate) fn reach_up_to<L: Ledger>(way: u64, d: u64, most: u64, steps: &mut Steps<L>) -> u64
+pub(crate) fn reach_up_to<L: Ledger>(way: u64, d: u64, most: u64, steps: &mut Counter<L>) -> u64
     requires least_fall { 1 ≤ d }
     requires most_fall { d ≤ MOST_STEP }
     requires way { way ≤ MOST_WAY }
@@ -34,7 +34,7 @@ pub(crate) fn slowed_up_to<L: Ledger>(
     to: u64,
     d: u64,
     most: u64,
-    steps: &mut Steps<L>,
+    steps: &mut Counter<L>,
 ) -> u64
     requires least_fall { 1 ≤ d }
     requires most_fall { d ≤ MOST_STEP }
@@ -55,7 +55,7 @@ pub(crate) fn slowed_up_to<L: Ledger>(
 
 // The greatest of all of them.
 #[inline(never)]
-fn greatest_slowed<L: Ledger>(way: u64, to: u64, d: u64, steps: &mut Steps<L>) -> u64
+fn greatest_slowed<L: Ledger>(way: u64, to: u64, d: u64, steps: &mut Counter<L>) -> u64
     requires least { 1 ≤ d }
     requires most { d ≤ MOST_STEP }
     requires velocity { to ≤ MOST_STEP }

@@ -3,7 +3,7 @@ ghost use Rattle.std.specs.Prelude.{◌≡◌, ℕ, ◌+◌, ◌-◌, ◌*◌, �
 ghost use Rattle.blend_plan.specs.Sums.{rise_of};
 
 use motion_numbers::{MOST_STEP, MOST_WAY};
-use ramp_root::{Steps, greatest_count_counted, sums_of_ramps};
+use ramp_root::{Counter, greatest_count_counted, sums_of_ramps};
 use std::sync::ledger::Ledger;
 
 // The greatest step above `from` and up to `high` from which speeding up by `a` each cycle to `top`
@@ -14,7 +14,7 @@ pub(crate) fn greatest_risen<L: Ledger>(
     high: u64,
     top: u64,
     a: u64,
-    steps: &mut Steps<L>,
+    steps: &mut Counter<L>,
 ) -> u64
     requires way { way ≤ MOST_WAY }
     requires some { 1 ≤ from }
@@ -46,7 +46,7 @@ fn greatest_risen_below<L: Ledger>(
     high: u64,
     top: u64,
     a: u64,
-    steps: &mut Steps<L>,
+    steps: &mut Counter<L>,
 ) -> u64
     requires way { way ≤ MOST_WAY }
     requires some { 1 ≤ from }

@@ -7,7 +7,7 @@ use crate::passing::greatest_passing;
 use crate::reaches::reach_up_to;
 use command_pool::Rates;
 use motion_numbers::{MOST_STEP, MOST_WAY, searches_find_the_greatest, ways_to_rest};
-use ramp_root::Steps;
+use ramp_root::Counter;
 use std::sync::ledger::Ledger;
 
 // The greatest step that stops at the first target or passes it, where the old step can be slowed
@@ -19,7 +19,7 @@ pub(crate) fn step_size<L: Ledger>(
     first: &Rates,
     second: &Rates,
     vb: u64,
-    steps: &mut Steps<L>,
+    steps: &mut Counter<L>,
 ) -> u64
     requires first_rates { AreRates first.now }
     requires second_rates { AreRates second.now }
@@ -52,7 +52,7 @@ fn greatest_step<L: Ledger>(
     first: &Rates,
     second: &Rates,
     vb: u64,
-    steps: &mut Steps<L>,
+    steps: &mut Counter<L>,
 ) -> u64
     requires first_rates { AreRates first.now }
     requires second_rates { AreRates second.now }

@@ -1,6 +1,9 @@
 -- Which changes a call and a cycle make of the commands of an axis, by kind (PLCopen Motion Control
 -- Part 1).
 use Rattle.std.specs.Prelude.{Bool, true, false, ◌&&◌, nat_eq, if◌then◌else◌, ℤ, ◌+ℤ◌, Option, Some, None, List, [], ◌∷◌, ◌++◌, slice_get}
+use Rattle.axis_core.specs.declared.profile.Goal.{Goal}
+use Rattle.axis_core.specs.declared.profile.Goal.TheVariants.{FromBefore}
+use Rattle.axis_core.specs.Profiles.{profile_of}
 use Rattle.axis_core.specs.Calls.{queue_in}
 use Rattle.axis_core.specs.Cores.{Core}
 use Rattle.axis_core.specs.Cycles.{advance_in_cycle, core_after_advance, core_after_answer, core_after_step}
@@ -12,6 +15,8 @@ use Rattle.axis_core.specs.blocks.Moves.{known_target_of, position_of, with_targ
 use Rattle.axis_core.specs.blocks.Reset.{may_reset}
 use Rattle.axis_core.specs.declared.axis.Axis.{Axis}
 use Rattle.axis_core.specs.declared.look.AxisLook.{AxisLook}
+use Rattle.axis_core.specs.declared.profile.Entry.{Entry}
+use Rattle.axis_core.specs.declared.profile.Entry.TheVariants.{Joins, Leaves, Awaits}
 use Rattle.axis_core.specs.declared.reason.Reason.{Reason}
 use Rattle.axis_state.specs.States.{is_error_stop}
 use Rattle.buffer_modes.specs.Queue.{is_active_at_once}
@@ -55,12 +60,15 @@ abbrev pub left_changes : Wanted → Core → List Change
 left_changes w c =
     replaced finish.Aborted (Some (velocity_command w c.axis)) [] ∷ holds false ∷ []
 
--- a command that is not refused, with its target as far as it is known
+-- a command that is not refused, with its target as far as it is known, by how it enters
+abbrev pub entered_changes : Entry → Wanted → Core → List Change
+entered_changes Joins w c = joined_changes w c
+entered_changes Leaves w c = left_changes w c
+entered_changes Awaits w c = awaits w.owner ∷ []
+
+-- the same of a kind
 abbrev pub admitted_changes : BlockKind → Wanted → Core → List Change
-admitted_changes kind.Reset w c = awaits w.owner ∷ []
-admitted_changes kind.GearOut w c = left_changes w c
-admitted_changes kind.CamOut w c = left_changes w c
-admitted_changes k w c = joined_changes w c
+admitted_changes k w c = entered_changes (profile_of k).entry w c
 
 -- a command that is asked; a refused one changes nothing
 abbrev pub asked_changes : Option Reason → Wanted → Core → List Change
@@ -78,17 +86,21 @@ power_changes false c =
     if is_error_stop c.axis.state then [] else replaced finish.Aborted None [] ∷ holds false ∷ []
 
 -- the first that waits takes over: a move whose target is fixed there fails where that lies outside
--- the limits. MC_MoveRelative; the error is this project's profile
+-- the limits. MC_MoveRelative, MC_MoveAdditive; the error is this project's profile
 abbrev pub relative_changes : Finish → Wanted → ℤ → Axis → List Change
 relative_changes f w target a =
     if is_outside a.limits.lo target a.limits.hi then ends f None ∷ failing 106
     else ends f (Some target) ∷ holds (is_stop w.kind) ∷ []
 
--- by its kind
-abbrev pub taking_changes : BlockKind → Option ℤ → Finish → Wanted → Axis → List Change
-taking_changes kind.MoveRelative None f w a =
+-- by where it has its target from
+abbrev pub taking_changes_in : Goal → Option ℤ → Finish → Wanted → Axis → List Change
+taking_changes_in (FromBefore base) None f w a =
     relative_changes f w (a.setpoint +ℤ position_of w) a
-taking_changes k target f w a = ends f None ∷ holds (is_stop w.kind) ∷ []
+taking_changes_in g target f w a = ends f None ∷ holds (is_stop w.kind) ∷ []
+
+-- the same of a kind
+abbrev pub taking_changes : BlockKind → Option ℤ → Finish → Wanted → Axis → List Change
+taking_changes k target f w a = taking_changes_in (profile_of k).goal target f w a
 
 -- the active command ends so; where none waits, none takes over
 abbrev pub ended_changes : Finish → List Wanted → Axis → List Change

@@ -6,10 +6,9 @@ ghost use Rattle.jerk_core.specs.Braking.{braked_of, way_of};
 ghost use Rattle.jerk_core.specs.Rates.{AreJerkRates, IsKeptBy, IsLeftBy, IsSafeBy};
 
 use crate::braking::{braked, rest_fits};
-use crate::looks::Looks;
 use crate::rates::JerkRates;
 use crate::reaching::greatest_fall;
-use motion_numbers::{MOST_STEP, way_fits};
+use motion_numbers::{Counter, MOST_STEP, way_fits};
 use std::sync::ledger::Ledger;
 
 /// Whether the motion with the speeds `last` and `speed` keeps the rates, and can keep them until
@@ -19,7 +18,7 @@ pub fn keeps<L: Ledger>(
     room: u64,
     last: u64,
     speed: u64,
-    looks: &mut Looks<L>,
+    looks: &mut Counter<L>,
 ) -> bool
     requires rates { AreJerkRates rates.now }
     requires last { last ≤ 2 * MOST_STEP }
@@ -41,7 +40,7 @@ pub fn greatest_safe<L: Ledger>(
     last: u64,
     speed: u64,
     most: u64,
-    looks: &mut Looks<L>,
+    looks: &mut Counter<L>,
 ) -> u64
     requires rates { AreJerkRates rates.now }
     requires last { last ≤ 2 * MOST_STEP }
@@ -79,7 +78,7 @@ pub fn safe_speed<L: Ledger>(
     room: u64,
     last: u64,
     speed: u64,
-    looks: &mut Looks<L>,
+    looks: &mut Counter<L>,
 ) -> Option<u64>
     requires rates { AreJerkRates rates.now }
     requires last { last ≤ 2 * MOST_STEP }
@@ -137,7 +136,7 @@ pub fn greatest_left<L: Ledger>(
     speed: u64,
     least: u64,
     most: u64,
-    looks: &mut Looks<L>,
+    looks: &mut Counter<L>,
 ) -> u64
     requires rates { AreJerkRates rates.now }
     requires speed { speed ≤ rates.now.v }
@@ -165,7 +164,7 @@ pub fn greatest_between<L: Ledger>(
     speed: u64,
     least: u64,
     most: u64,
-    looks: &mut Looks<L>,
+    looks: &mut Counter<L>,
 ) -> u64
     requires rates { AreJerkRates rates.now }
     requires speed { speed ≤ rates.now.v }
@@ -200,7 +199,7 @@ fn looks_ahead<L: Ledger>(
     room: u64,
     speed: u64,
     next: u64,
-    looks: &mut Looks<L>,
+    looks: &mut Counter<L>,
 ) -> bool
     requires rates { AreJerkRates rates.now }
     requires speed { speed ≤ rates.now.v }

@@ -4,10 +4,9 @@ ghost use Rattle.std.specs.Prelude.{◌≡◌, ◌↔◌, IsTrue, ◌+◌, ◌-�
 ghost use Rattle.motion_numbers.specs.Run.{run_of};
 ghost use Rattle.jerk_core.specs.Braking.{braked_of, way_of};
 
-use crate::looks::Looks;
 use crate::reaching::greatest_fall;
 use crate::rest::way_to_rest;
-use motion_numbers::MOST_STEP;
+use motion_numbers::{Counter, MOST_STEP};
 use std::sync::ledger::Ledger;
 
 /// The least speed that may follow the speeds `last` and `speed`, in internal units per cycle: it
@@ -35,7 +34,7 @@ pub fn rest_fits<L: Ledger>(
     last: u64,
     speed: u64,
     room: u64,
-    looks: &mut Looks<L>,
+    looks: &mut Counter<L>,
 ) -> bool
     requires d_least { 1 ≤ d }
     requires d_most { d ≤ MOST_STEP }

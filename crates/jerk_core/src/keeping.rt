@@ -6,11 +6,10 @@ ghost use Rattle.jerk_core.specs.Admissible.{AreJerkLimits, IsKeptByJerk};
 
 use crate::ahead::keeps;
 use crate::limits::JerkLimits;
-use crate::looks::Looks;
 use crate::motions::{Motion, Setpoints};
 use crate::rates::JerkRates;
 use crate::taking::{downward, rises, sizes, upward};
-use motion_numbers::MOST_STEP;
+use motion_numbers::{Counter, MOST_STEP};
 use std::marker::Brand;
 use std::sync::ledger::{Blank, Ledger};
 
@@ -31,12 +30,16 @@ fn is_kept_by<L: Ledger>(limits: &JerkLimits, at: &Setpoints, blank: Blank) -> b
     requires limits { AreJerkLimits limits.now }
     ensures { IsTrue result ↔ IsKeptByJerk limits.now at.now.first at.now.before at.now.current }
 {
-    let mut looks = Looks::<L>::open(blank);
+    let mut looks = Counter::<L>::open(blank);
     is_kept_counted(limits, at, &mut looks)
 }
 
 /// The same, counted: at most one look at the way to rest.
-pub fn is_kept_counted<L: Ledger>(limits: &JerkLimits, at: &Setpoints, looks: &mut Looks<L>) -> bool
+pub fn is_kept_counted<L: Ledger>(
+    limits: &JerkLimits,
+    at: &Setpoints,
+    looks: &mut Counter<L>,
+) -> bool
     requires limits { AreJerkLimits limits.now }
     ensures value { IsTrue result ↔ IsKeptByJerk limits.now at.now.first at.now.before at.now.current }
     ensures cost { looks.new ≤ looks.old + 1 }
@@ -68,7 +71,7 @@ fn falls(at: &Setpoints) -> bool
 }
 
 // Whether the motion is kept, whatever its speeds are.
-fn keeps_motion<L: Ledger>(rates: &JerkRates, motion: &Motion, looks: &mut Looks<L>) -> bool
+fn keeps_motion<L: Ledger>(rates: &JerkRates, motion: &Motion, looks: &mut Counter<L>) -> bool
     requires rates { AreJerkRates rates.now }
     ensures cost { looks.new ≤ looks.old + 1 }
     ensures value { IsTrue result ↔ IsKeptBy rates.now motion.now.ahead motion.now.last motion.now.speed }

@@ -8,7 +8,6 @@ mod braking;
 mod keeping;
 mod laws;
 mod limits;
-mod looks;
 mod motions;
 mod rates;
 mod reaching;
@@ -24,7 +23,7 @@ pub use laws::{
     rest_can_be_left, safe_speeds_are_an_interval, standing_is_kept_by_jerk, ways_unfold,
 };
 pub use limits::JerkLimits;
-pub use looks::Looks;
+pub use motion_numbers::Counter;
 pub use motions::{Motion, Setpoints};
 pub use rates::JerkRates;
 pub use reaching::greatest_fall;

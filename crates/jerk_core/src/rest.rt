@@ -6,15 +6,14 @@ ghost use Rattle.motion_numbers.specs.Run.{run_of, reach_of};
 ghost use Rattle.jerk_core.specs.Braking.{way_of};
 ghost use Rattle.jerk_core.specs.Sums.{triangle_of, tetrahedron_of, IsRamp};
 
-use crate::looks::Looks;
 use crate::reaching::{root_about, whole_falls};
 use crate::sums::{MOST_CYCLES, MOST_FALLS, tetrahedron, triangle};
-use motion_numbers::{MOST_STEP, ramp_sum, way_fits};
+use motion_numbers::{Counter, MOST_STEP, ramp_sum, way_fits};
 use std::sync::ledger::Ledger;
 
 /// The way to rest by braking, in internal units: the speeds of all its cycles, added up. One look,
 /// which it counts.
-pub fn way_to_rest<L: Ledger>(d: u64, j: u64, last: u64, speed: u64, looks: &mut Looks<L>) -> u128
+pub fn way_to_rest<L: Ledger>(d: u64, j: u64, last: u64, speed: u64, looks: &mut Counter<L>) -> u128
     requires d_least { 1 ≤ d }
     requires d_most { d ≤ MOST_STEP }
     requires j_least { 1 ≤ j }

@@ -8,11 +8,10 @@ ghost use Rattle.jerk_core.specs.Taken.{IsSafeFrom, IsMotionUp, IsMotionDown};
 
 use crate::ahead::{greatest_left, greatest_safe};
 use crate::limits::JerkLimits;
-use crate::looks::Looks;
 use crate::motions::{Motion, Setpoints};
 use crate::rates::JerkRates;
 use crate::reaching::greatest_fall;
-use motion_numbers::{MOST_STEP, MOST_WAY};
+use motion_numbers::{Counter, MOST_STEP, MOST_WAY};
 use std::marker::Brand;
 use std::sync::ledger::{Blank, Ledger};
 
@@ -39,7 +38,7 @@ fn nearest_safe_by<L: Ledger>(limits: &JerkLimits, at: &Setpoints, wanted: i64, 
     ensures taken { IsTakenByJerk limits.now at.now.first at.now.before at.now.current wanted result }
     ensures small { IsStep result }
 {
-    let mut looks = Looks::<L>::open(blank);
+    let mut looks = Counter::<L>::open(blank);
     nearest_safe_counted(limits, at, wanted, &mut looks)
 }
 
@@ -48,7 +47,7 @@ pub fn nearest_safe_counted<L: Ledger>(
     limits: &JerkLimits,
     at: &Setpoints,
     wanted: i64,
-    looks: &mut Looks<L>,
+    looks: &mut Counter<L>,
 ) -> i64
     requires limits { AreJerkLimits limits.now }
     requires kept { IsKeptByJerk limits.now at.now.first at.now.before at.now.current }
@@ -131,7 +130,7 @@ fn nearest_ahead<L: Ledger>(
     rates: &JerkRates,
     motion: &Motion,
     wanted: i64,
-    looks: &mut Looks<L>,
+    looks: &mut Counter<L>,
 ) -> i64
     requires rates { AreJerkRates rates.now }
     requires last { motion.now.last ≤ 2 * MOST_STEP }
@@ -163,7 +162,7 @@ fn greatest_back<L: Ledger>(
     rates: &JerkRates,
     motion: &Motion,
     most: u64,
-    looks: &mut Looks<L>,
+    looks: &mut Counter<L>,
 ) -> u64
     requires rates { AreJerkRates rates.now }
     requires last { motion.now.last ≤ 2 * MOST_STEP }

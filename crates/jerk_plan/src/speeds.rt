@@ -5,7 +5,7 @@ ghost use Rattle.motion_numbers.specs.Run.{reach_of};
 ghost use Rattle.jerk_core.specs.Rates.{AreJerkRates, IsKeptBy};
 ghost use Rattle.jerk_plan.specs.Wanted.{IsSpeedOfMove, IsMoveOf, slowed_of, velocity_of};
 
-use jerk_core::{JerkRates, Looks, braked, greatest_fall, safe_speed};
+use jerk_core::{Counter, JerkRates, braked, greatest_fall, safe_speed};
 use motion_numbers::MOST_STEP;
 use std::sync::ledger::Ledger;
 
@@ -16,7 +16,7 @@ pub fn move_speed<L: Ledger>(
     way: u64,
     last: u64,
     speed: u64,
-    looks: &mut Looks<L>,
+    looks: &mut Counter<L>,
 ) -> u64
     requires rates { AreJerkRates rates.now }
     requires last { last ≤ 2 * MOST_STEP }
@@ -37,7 +37,7 @@ pub fn own_speed<L: Ledger>(
     way: u64,
     last: u64,
     speed: u64,
-    looks: &mut Looks<L>,
+    looks: &mut Counter<L>,
 ) -> Option<u64>
     requires rates { AreJerkRates rates.now }
     ensures found { (x : ℕ) → result ≡ Some x → IsMoveOf rates.now way last speed x }

@@ -7,7 +7,7 @@ ghost use Rattle.jerk_core.specs.Rates.{AreJerkRates};
 ghost use Rattle.jerk_plan.specs.Directed.{HeadsUp, IsMoveStep, IsVelocityStep, IsHaltStep};
 
 use crate::speeds::{halt_speed, move_speed, velocity_speed};
-use jerk_core::{JerkRates, Looks};
+use jerk_core::{Counter, JerkRates};
 use motion_numbers::{MOST_STEP, MOST_WAY};
 use std::marker::Brand;
 use std::sync::ledger::{Blank, Ledger};
@@ -44,7 +44,7 @@ fn move_step_by<L: Ledger>(
     ensures wanted { IsMoveStep rates.now distance last speed result }
     ensures small { unsigned_abs result ≤ 2 * MOST_STEP }
 {
-    let mut looks = Looks::<L>::open(blank);
+    let mut looks = Counter::<L>::open(blank);
     move_step_counted(rates, distance, last, speed, &mut looks)
 }
 
@@ -54,7 +54,7 @@ pub fn move_step_counted<L: Ledger>(
     distance: i64,
     last: i64,
     speed: i64,
-    looks: &mut Looks<L>,
+    looks: &mut Counter<L>,
 ) -> i64
     requires rates { AreJerkRates rates.now }
     requires distance { IsWay distance }

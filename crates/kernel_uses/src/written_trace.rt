@@ -4,9 +4,8 @@ ghost use Rattle.std.specs.Prelude.{◌≡◌, ◌↔◌, IfOk, length, map};
 ghost use Rattle.kernel_uses.specs.Verified.{IsVerdictOn};
 ghost use Rattle.machine_drives.specs.Drives.{drive_end};
 ghost use Rattle.motion_history.specs.Entries.{cycles_of};
-ghost use Rattle.motion_history.specs.declared.refused.TraceVersion.TheVariants.{Two};
 ghost use Rattle.trace_check.specs.Legal.{IsLegalTrace};
-ghost use Rattle.trace_text.specs.Trace.{trace_text};
+ghost use Rattle.trace_text.specs.Trace.{run_version, trace_text};
 ghost use Rattle.trace_text.specs.TraceState.{entries_of};
 ghost use Rattle.trace_text.specs.declared.command.Command.TheVariants.{Run};
 ghost use Rattle.trace_text.specs.writing.Writes.{Writes};
@@ -18,7 +17,7 @@ use motion_kernel::Kernel;
 use outside::Sink;
 use std::alloc::Global;
 use trace_check::{Trace, Verdict, check, read_trace};
-use trace_text::{Command, TraceFault, parts_are_beginnings, write_trace};
+use trace_text::{Command, TraceFault, parts_are_beginnings, trace_version, write_trace};
 
 /// Writes the trace of a run: its machine, each entry of its history, and what its drives took.
 pub fn write_run<K: Sink>(
@@ -30,7 +29,7 @@ pub fn write_run<K: Sink>(
     requires each { length drives.now ≡ length kernel.now.config.axes }
     ensures { Writes (record { count = K.count out.old; told = K.told out.old })
         (record { count = K.count out.new; told = K.told out.new })
-        (trace_text Two Run kernel.now.config kernel.now.history
+        (trace_text (run_version kernel.now.config) Run kernel.now.config kernel.now.history
         (map (drive_end (cycles_of kernel.now.history)) drives.now)) result }
 {
     // laws
@@ -40,7 +39,7 @@ pub fn write_run<K: Sink>(
     };
     write_trace(
         alloc,
-        TraceVersion::Two,
+        trace_version(TraceVersion::Two, kernel.config()),
         Command::Run,
         kernel.config(),
         kernel.history(),

@@ -55,7 +55,7 @@ line-of known seed old new s e legal h =
       ending = ending;
       entries = known.entries b ending ∙ all-events known.fill seed;
       legal = legal.legal;
-      laws = legal.laws;
+      motion = legal.motion;
       written = (whole old new (load_plan seed) s e (ap is_fault h)).1;
     }
 

@@ -13,7 +13,7 @@ use Rattle.load_job.specs.Load.{generated_bench}
 use Rattle.load_job.specs.Machine.{machine}
 use Rattle.motion_history.specs.Entries.{Entry}
 use Rattle.motion_kernel.specs.Histories.{IsLegal}
-use Rattle.motion_laws.specs.Laws.{KeepsLaws}
+use Rattle.motion_laws.specs.Headline.{KeepsHeadline}
 use Rattle.trace_text.specs.writing.Writes.{Output}
 use Rattle.load_job.specs.Lines.{load_line}
 
@@ -34,9 +34,10 @@ pub record LoadLine (seed : ℕ) (old new : Option (List ℕ)) : Type 0 where
   -- they are all made, in 14,001 entries
   pub ending : (run_of (generated_bench seed)).ending ≡ Ok tt
   pub entries : length history ≡ 14001
-  -- each of its replies and rows is the PLCopen machine's, and it keeps the machine's laws
+  -- each of its replies and rows is the PLCopen machine's; its axes keep their limits, their moves
+  -- arrive, and their drives are given their setpoints
   pub legal : IsLegal machine history
-  pub laws : KeepsLaws machine history
+  pub motion : KeepsHeadline machine history
   -- what was written is the line of all this
   pub written : Appends old new (load_line seed history)
 

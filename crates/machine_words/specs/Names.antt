@@ -6,8 +6,10 @@ use Rattle.std.specs.Str.{bytes_eq}
 use Rattle.plc_types.specs.declared.axis.AxisDef.{AxisDef}
 use Rattle.plc_types.specs.Kinds.{acts_on_group}
 use Rattle.plc_types.specs.declared.kind.BlockKind.{BlockKind}
-use Rattle.plc_types.specs.KindNames.{kind_named}
+use Rattle.plc_types.specs.KindNames.{kind_in}
 use Rattle.motion_history.specs.Setup.{Setup}
+use Rattle.motion_history.specs.Versions.{number_of}
+use Rattle.motion_history.specs.declared.refused.TraceVersion.{TraceVersion}
 use Rattle.motion_history.specs.declared.config.BlockDef.{BlockDef}
 use Rattle.motion_history.specs.declared.config.GroupDef.{GroupDef}
 use Rattle.machine_words.specs.RuleNumbers.{wrong_name}
@@ -40,6 +42,6 @@ axis_named rule s name = ok_or (axis_at s name) rule
 abbrev pub object_named : Setup → BlockKind → List ℕ → Result ℕ ℕ
 object_named s kind name = ok_or (object_at s kind name) wrong_name
 
--- the kind of this name in a bench or a program
-abbrev pub kind_of : List ℕ → Result BlockKind ℕ
-kind_of name = ok_or (kind_named name) wrong_name
+-- the kind of this name in a bench or a program that has the kinds of a version
+abbrev pub kind_of : TraceVersion → List ℕ → Result BlockKind ℕ
+kind_of version name = ok_or (kind_in (number_of version) name) wrong_name

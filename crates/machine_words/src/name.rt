@@ -9,8 +9,8 @@ ghost use Rattle.machine_words.specs.Names as spec;
 
 use crate::rule::WRONG_NAME;
 use line_text::{LineFault, required};
-use motion_history::{BlockDef, Builder, GroupDef};
-use plc_types::{AxisDef, BlockKind, Name, kind_named};
+use motion_history::{BlockDef, Builder, GroupDef, TraceVersion};
+use plc_types::{AxisDef, BlockKind, Name, kind_in};
 use std::alloc::Global;
 
 /// Whether two names are the same.
@@ -152,9 +152,9 @@ pub fn object_named(machine: &Builder, kind: BlockKind, name: &[u8]) -> Result<u
     required(object_at(machine, kind, name), WRONG_NAME)
 }
 
-/// The kind of this name in a bench or a program.
-pub fn kind_of(name: &[u8]) -> Result<BlockKind, LineFault>
-    ensures { Gives (λ k. k) (spec.kind_of name.now) result }
+/// The kind of this name in a bench or a program that has the kinds of a version.
+pub fn kind_of(version: TraceVersion, name: &[u8]) -> Result<BlockKind, LineFault>
+    ensures { Gives (λ k. k) (spec.kind_of version name.now) result }
 {
-    required(kind_named(name), WRONG_NAME)
+    required(kind_in(version.number(), name), WRONG_NAME)
 }

@@ -14,7 +14,7 @@ use outside::{MemorySink, write_all};
 use plc_types::{DriveIn, DriveState};
 use segment_text::header_text;
 use std::alloc::{AllocError, Global};
-use trace_text::{Command, DriveEndRow, write_trace};
+use trace_text::{Command, DriveEndRow, trace_version, write_trace};
 
 /// The trace of a machine, if there is memory for it.
 pub fn trace_written(alloc: Global, machine: &Machine, answers: &[DriveIn]) -> Option<MemorySink>
@@ -22,7 +22,7 @@ pub fn trace_written(alloc: Global, machine: &Machine, answers: &[DriveIn]) -> O
     ensures { IfSome result (λ t. IsTraceOf machine.now answers.now (bytes_of t)) }
 {
     let segment = machine.kernel.segment();
-    let version = trace_version(machine.version, segment.config());
+    let version = version_of(machine.version, segment.config());
     let trace = MemorySink::new(alloc, &[], u32::MAX).ok()?;
     with_trace(alloc, version, segment, answers, trace)
 }
@@ -38,7 +38,8 @@ pub fn trace_segment_written(
     ensures { IfSome result (λ t. IsTraceSegmentOf segment.now answers.now (bytes_of t)) }
 {
     let header = header_written(alloc, segment)?;
-    with_trace(alloc, TraceVersion::Two, segment, answers, header)
+    let version = trace_version(TraceVersion::Two, segment.config());
+    with_trace(alloc, version, segment, answers, header)
 }
 
 // The header of the trace segment that a segment is, and the blank line after it, if there is
@@ -84,25 +85,26 @@ fn with_trace(
 }
 
 // The version of a machine's trace, by that of the text that opened it.
-fn trace_version(opened: TraceVersion, config: &Config) -> TraceVersion
+fn version_of(opened: TraceVersion, config: &Config) -> TraceVersion
     ensures version { IsTraceVersion opened config.now result }
     ensures holds { CanHold result config.now }
 {
     match opened {
         TraceVersion::One => least_version(config),
-        TraceVersion::Two => TraceVersion::Two,
+        TraceVersion::Two => trace_version(TraceVersion::Two, config),
+        TraceVersion::Three => trace_version(TraceVersion::Three, config),
     }
 }
 
 // The first version that can hold a machine.
 fn least_version(config: &Config) -> TraceVersion
-    ensures one { (result ≡ TraceVersion.One) ↔ CanHold TraceVersion.One config.now }
+    ensures version { IsTraceVersion TraceVersion.One config.now result }
     ensures holds { CanHold result config.now }
 {
     if brake_as_they_speed_up(config.axes()) {
-        TraceVersion::One
+        trace_version(TraceVersion::One, config)
     } else {
-        TraceVersion::Two
+        trace_version(TraceVersion::Two, config)
     }
 }
 

@@ -24,7 +24,7 @@ use Rattle.trace_jobs.specs.Migrated.{Migrated}
 use Rattle.trace_text.specs.writing.Writes.{Output}
 
 -- what was written stands for: a trace for `bench` is that of a bench, and on Ok `migrate` wrote
--- the trace that was read, in version 2
+-- the trace that was read again
 abbrev pub FileStands : Option FileMap → Job → List ℕ → Option (List ℕ) → Option (List ℕ) →
     Status → Type 0
 FileStands told Bench name old new s = is_traced s ≡ true → Headline told name old new

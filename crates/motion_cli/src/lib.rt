@@ -10,7 +10,10 @@ mod usage;
 
 pub use command_words::{Job, Words, words_from};
 pub use job_ends::Status;
-pub use laws::{bench_traces_are_legal, run_traces_are_legal, st_traces_are_legal};
+pub use laws::{
+    bench_traces_are_legal, run_traces_are_legal, st_traces_are_legal,
+    written_histories_keep_their_laws,
+};
 pub use outside::{Files, Gate, Host, OutOfMemory, Sink, Spawner};
 pub use program::{top, top_of_args};
 pub use run_job::PlantJob;

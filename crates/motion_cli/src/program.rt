@@ -106,7 +106,7 @@ fn top_of_words<F: Files, K: Sink, H: Host + Wait + Sync, G: Gate + Drop + Send 
 ///
 /// Where it answers Ok, CyclesOver or HistoryFull to `bench`, `run` or `st`, what was written is
 /// the trace of a bench or of a run, as the headlines say, and `standby` is as `bench`; where it
-/// answers Ok to `migrate`, the trace that was read, in version 2; to `gen`, the line of the load
+/// answers Ok to `migrate`, the trace that was read, again; to `gen`, the line of the load
 /// that the seed generates; to `switches`, the edges of the switches in a legal trace; to `scope`,
 /// the report of the trace. Where it answers Legal to `check`, the text is a legal trace; or it
 /// begins with `segment,` and is a trace segment of one, a machine may begin as its header

@@ -16,3 +16,4 @@ pub mod Configurations
 pub mod Columns
 pub mod NameTexts
 pub mod Drives
+pub mod Versions

@@ -5,7 +5,6 @@ pub mod AxisCycles
 pub mod Calls
 pub mod Exactly
 pub mod Cycles
-pub mod AxisNotes
 pub mod GroupNotes
 pub mod Reported
 pub mod Histories

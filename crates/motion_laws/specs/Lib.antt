@@ -9,3 +9,4 @@ pub mod results
 pub mod Orders
 pub mod Standing
 pub mod Laws
+pub mod Headline

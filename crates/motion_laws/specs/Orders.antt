@@ -3,6 +3,8 @@
 use Rattle.std.specs.Prelude.{◌≡◌, ℕ, Bool, true, false, nat_lt, Option, Some, List, length, slice_get}
 use Rattle.std.specs.List.{AllByRecursion}
 use Rattle.axis_core.specs.Demands.{asked_target}
+use Rattle.axis_core.specs.Profiles.{profile_of}
+use Rattle.axis_core.specs.blocks.Moves.{is_relative_in}
 use Rattle.axis_core.specs.Kinds.{may_wait}
 use Rattle.axis_core.specs.blocks.Cam.{is_no_table}
 use Rattle.axis_core.specs.blocks.Gear.{is_master}
@@ -32,10 +34,9 @@ has_master axes (follow.Gear master n d) = nat_lt master axes
 has_master axes (follow.Cam master table) = nat_lt master axes
 has_master axes follow.None = true
 
--- whether a kind moves so far from where it begins. MC_MoveRelative
+-- whether a kind moves so far from another place. MC_MoveRelative, MC_MoveAdditive
 abbrev pub is_relative : BlockKind → Bool
-is_relative kind.MoveRelative = true
-is_relative k = false
+is_relative k = is_relative_in (profile_of k).goal
 
 -- a command of the axis of this number: it follows another axis that is there where its kind does,
 -- a CamIn by a table that is there; its target is the position that its kind takes, unless it is

@@ -36,11 +36,11 @@ pub fn errors_are_told_as_shown()
 /// setpoints no more, without a fault; 105 where its drive begins to take them outside its limits;
 /// 103 where its active command has no target, and the step that it wants is unsafe and doesn't
 /// brake; 104 where its active command is a CamIn that was InSync, and the step to the cam's
-/// position is unsafe; 106 where a MoveRelative takes over whose target then lies outside the
-/// limits. A group gets 102 where a Power of one of its axes is called with Enable false, and in a
-/// cycle 101, 102 or 105 where the drive of one of its axes brings that axis this error, and that
-/// of none before it in the group's order one. And each error by which a command ends, and which
-/// its instance is notified, is brought so by the entry that ends it.
+/// position is unsafe; 106 where a MoveRelative or a MoveAdditive takes over whose target then lies
+/// outside the limits. A group gets 102 where a Power of one of its axes is called with Enable
+/// false, and in a cycle 101, 102 or 105 where the drive of one of its axes brings that axis this
+/// error, and that of none before it in the group's order one. And each error by which a command
+/// ends, and which its instance is notified, is brought so by the entry that ends it.
 pub fn errors_have_causes()
     ensures causes { (s : Setup) (es : List Entry) → IsSetup s → AreWhole s → IsPast s es →
         ErrorsAreBrought s es }

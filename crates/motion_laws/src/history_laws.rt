@@ -7,6 +7,7 @@ ghost use Rattle.motion_history.specs.Setup.{Setup, IsSetup};
 ghost use Rattle.motion_kernel.specs.Segments.{counted_on};
 ghost use Rattle.motion_kernel.specs.Histories.{IsLegal, IsLegalFrom, IsPast, machine_from};
 ghost use Rattle.motion_kernel.specs.Machine.{machine_at_opening};
+ghost use Rattle.motion_laws.specs.Headline.{KeepsHeadline};
 ghost use Rattle.motion_laws.specs.Laws.{KeepsLaws};
 ghost use Rattle.motion_kernel.specs.kept.Machine.{AreWhole};
 
@@ -70,6 +71,17 @@ pub fn histories_keep_their_laws()
         KeepsLaws s es }
 {
     pasts_keep_their_laws();
+}
+
+/// Every legal history keeps what the headlines of the program say: each row keeps its axis's limits
+/// while it is driven, and is driven exactly where it may be; the target that a drive is given is
+/// the count of its row's setpoint; and moves, Halts and Stops end in time. These are laws among
+/// those of [`histories_keep_their_laws`]; and since the configuration is sound, these follow again.
+pub fn histories_keep_the_headline()
+    ensures { (s : Setup) (es : List Entry) → IsSetup s → AreWhole s → IsLegal s es →
+        KeepsHeadline s es }
+{
+    histories_keep_their_laws();
 }
 
 /// Segments that follow each other, each legal from the machine to which those before it lead, are

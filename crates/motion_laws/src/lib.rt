@@ -27,7 +27,8 @@ pub use entry_laws::entries_keep_their_laws;
 pub use error_laws::{errors_are_told_as_shown, errors_have_causes};
 pub use event_laws::states_change_by_their_events;
 pub use history_laws::{
-    histories_keep_their_laws, pasts_keep_their_laws, segments_keep_their_laws,
+    histories_keep_the_headline, histories_keep_their_laws, pasts_keep_their_laws,
+    segments_keep_their_laws,
 };
 pub use kind_laws::commands_end_by_their_kinds;
 pub use limit_laws::{at_most_eight_wait, axes_stay_stoppable, rows_keep_limits};

@@ -69,9 +69,9 @@ pub fn results_stay_shown()
 }
 
 /// A move of an instance is Done at its target. By the entry that ends the command of a
-/// MoveAbsolute or a MoveRelative Done, in every past, the axis stands at its target, at
-/// rest, or, where the move is blended, comes there by a step of at most the blend velocity that
-/// crosses it; and the command was the active one of that axis.
+/// MoveAbsolute, a MoveRelative or a MoveAdditive Done, in every past, the axis stands at its
+/// target, at rest, or, where the move is blended, comes there by a step of at most the blend
+/// velocity that crosses it; and the command was the active one of that axis.
 pub fn done_moves_are_at_their_targets()
     ensures targets { (s : Setup) (es : List Entry) → IsSetup s → AreWhole s → IsPast s es →
         MovesEndThere s es }

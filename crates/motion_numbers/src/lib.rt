@@ -1,14 +1,17 @@
 //! The whole numbers of motion: their ranges, and the sums of the ramps that they make. It stands
 //! on nothing, and nearly all else stands on it: ways, steps, counts and their greatest values, so
-//! that no number overflows 128 bits. Begin at [`ramp_sum`] and the ranges below. Here is also the
-//! one answer that a call may always give where it takes memory, [`OutOfMemory`].
+//! that no number overflows 128 bits. Begin at [`ramp_sum`] and the ranges below. Here are also the
+//! one answer that a call may always give where it takes memory, [`OutOfMemory`], and a counter for
+//! contracts that say how often a thing is done, [`Counter`].
 #![tactic(auto)]
 
+mod counter;
 mod laws;
 mod out_of_memory;
 mod ramp;
 mod ranges;
 
+pub use counter::Counter;
 pub use laws::{searches_find_the_greatest, ways_to_rest};
 pub use out_of_memory::OutOfMemory;
 pub use ramp::{greatest_ramp, ramp_sum, run_sum, way_fits};

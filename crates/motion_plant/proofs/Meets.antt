@@ -27,7 +27,7 @@ use Rattle.motion_history.specs.Entries.{Entry}
 use Rattle.motion_history.specs.Setup.{Setup}
 use Rattle.motion_kernel.specs.Histories.{IsLegal}
 use Rattle.motion_kernel.specs.KernelState.{KernelState}
-use Rattle.motion_laws.specs.Laws.{KeepsLaws}
+use Rattle.motion_laws.specs.Headline.{KeepsHeadline}
 use Rattle.atomic_table.specs.Seated.{TableId}
 use Rattle.motion_plant.specs.declared.plant_job.PlantJob.{PlantJob}
 use Rattle.motion_plant.specs.declared.plant_job.PlantJob.TheVariants as jobs_of
@@ -187,11 +187,11 @@ module _ (first k1 k2 : PermitState) (m : ℕ) (lines lines1 lines2 : List Drive
 
   pub meets : {G : Type 0} (seats : List (Snapshot (TaskJob G))) →
       Each (λ i z. HasMade (job_lines z.value) k1.config i k2) seats → IsLegal f.config f.history →
-      KeepsLaws f.config f.history → first.made_stop ≡ false →
+      KeepsHeadline f.config f.history → first.made_stop ≡ false →
       PlantMeets first.config lines seats f.history logs
-  meets seats tasks legal laws none = record {
+  meets seats tasks legal motion none = record {
     legal = subst (λ (s : Setup). IsLegal s h) config legal;
-    laws = subst (λ (s : Setup). KeepsLaws s h) config laws;
+    motion = subst (λ (s : Setup). KeepsHeadline s h) config motion;
     tasks = λ i z at. let t = tasks i z at in (
       t.0,
       subst (λ made. TaskMade (job_lines z.value) i t.0 made) (sym (all_is_made (suc i)))

@@ -155,7 +155,7 @@ module _ {G : Type 0} where
       let drives = drives_are axes defs lines width each new in
       record {
         legal = m.legal;
-        laws = m.laws;
+        motion = m.motion;
         tasks = λ t ls at.
             let lt = get_some program t ls at in
             let z = get_there seats t (omega arith) in

@@ -10,7 +10,7 @@ use Rattle.motion_history.specs.Entries.{Entry, cycles_of}
 use Rattle.motion_history.specs.Setup.{Setup}
 use Rattle.motion_kernel.specs.Histories.{IsLegal}
 use Rattle.motion_kernel.specs.Tasks.{live_tasks}
-use Rattle.motion_laws.specs.Laws.{KeepsLaws}
+use Rattle.motion_laws.specs.Headline.{KeepsHeadline}
 use Rattle.motion_plant.specs.Driven.{IsAlive, IsDriven}
 use Rattle.motion_plant.specs.Jobs.{job_lines}
 use Rattle.motion_plant.specs.Lines.{drive_of}
@@ -37,7 +37,7 @@ EndsSo s h = (live_tasks s h ≡ 0) ⊎ (cycles_of h ≡ s.cycles) ⊎ (length h
 pub record PlantMeets {G : Type 0} (s : Setup) (lines : List DriveLinkState)
     (seats : List (Snapshot (TaskJob G))) (h : List Entry) (logs : List DriveLog) : Type 0 where
   pub legal : IsLegal s h
-  pub laws : KeepsLaws s h
+  pub motion : KeepsHeadline s h
   pub tasks : Each (λ i (z : Snapshot (TaskJob G)). TaskMeets s (job_lines z.value) i h) seats
   pub drives : Each (λ i g. (l : DriveLinkState) × (slice_get lines i ≡ Some l) ×
       DriveMeets l.job.drive i h g) logs
@@ -52,7 +52,7 @@ pub record PlantMeets {G : Type 0} (s : Setup) (lines : List DriveLinkState)
 pub record PlantRan (s : Setup) (program : List (List Instruction)) (drives : List DriveSim)
     (h : List Entry) (logs : List DriveLog) : Type 0 where
   pub legal : IsLegal s h
-  pub laws : KeepsLaws s h
+  pub motion : KeepsHeadline s h
   pub tasks : Each (λ t lines. TaskMeets s lines t h) program
   pub logged : length logs ≡ length drives
   pub drives_meet : (i : ℕ) (d : DriveSim) (g : DriveLog) → slice_get drives i ≡ Some d →

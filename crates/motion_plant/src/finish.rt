@@ -19,7 +19,7 @@ use crate::plant_job::PlantJob;
 use crate::rooms::{CycleRoom, OpenKernel, StartedJobs};
 use drive_jobs::DriveLink;
 use kernel_turn::{Kernel, KernelTurn, Permit};
-use motion_laws::histories_keep_their_laws;
+use motion_laws::histories_keep_the_headline;
 use outside::{Gate, Host, Spawner};
 use setpoint_ring::DriveLog;
 use std::sync::Wait;
@@ -101,7 +101,7 @@ pub fn run_started<H: Host + Wait, G: Gate + Drop + Send + 'static>(
     finish_tasks(spawner, base + drives, &turn, &mut permit, &seats);
     let kernel = turn.close(rt, permit);
     // laws
-    histories_keep_their_laws();
+    histories_keep_the_headline();
     kernel.history();
     PlantEnd {
         kernel,

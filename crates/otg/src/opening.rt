@@ -5,7 +5,7 @@ ghost use Rattle.jerk_core.specs.Rates.{AreJerkRates};
 ghost use Rattle.otg.specs.Open.{AreLimitsOf, ArePlaces, AreGains, IsCommandOf, IsTargetOf, IsOpen, resting_of};
 
 use crate::generator::{Otg, limits, own_rates, setpoints};
-use jerk_core::{JerkRates, Looks, is_kept, is_kept_counted};
+use jerk_core::{Counter, JerkRates, is_kept, is_kept_counted};
 use motion_numbers::{MOST_PLACE, MOST_STEP};
 use std::sync::ledger::Ledger;
 
@@ -68,7 +68,7 @@ pub(crate) fn is_open(otg: &Otg) -> bool
 }
 
 // The same, with its look at the way to rest counted.
-pub(crate) fn is_open_counted<L: Ledger>(otg: &Otg, looks: &mut Looks<L>) -> bool
+pub(crate) fn is_open_counted<L: Ledger>(otg: &Otg, looks: &mut Counter<L>) -> bool
     ensures value { IsTrue result ↔ IsOpen otg.now }
     ensures cost { looks.new ≤ looks.old + 1 }
 {

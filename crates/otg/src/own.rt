@@ -12,12 +12,12 @@ ghost use Rattle.otg.specs.Own.{Rises, Falls, HasTargetAbove, HasTargetBelow, Is
 use crate::generator::{Otg, own_rates};
 use crate::opening::{are_limits, is_command};
 use crate::stepping::shifted;
-use jerk_core::Looks;
+use jerk_core::Counter;
 use jerk_plan::own_speed;
 use std::sync::ledger::Ledger;
 
 /// Goes a step up by the move's own rates, where they keep the motion. Else nothing changes.
-pub(crate) fn steps_up<L: Ledger>(otg: &mut Otg, looks: &mut Looks<L>) -> bool
+pub(crate) fn steps_up<L: Ledger>(otg: &mut Otg, looks: &mut Counter<L>) -> bool
     ensures opened { IsTrue result → IsOpen otg.old × IsOpen otg.new }
     ensures step { IsTrue result → IsStepOf otg.old otg.new }
     ensures same { result ≡ false → otg.new ≡ otg.old }
@@ -41,7 +41,7 @@ pub(crate) fn steps_up<L: Ledger>(otg: &mut Otg, looks: &mut Looks<L>) -> bool
 }
 
 /// Goes a step down by the move's own rates, where they keep the motion. Else nothing changes.
-pub(crate) fn steps_down<L: Ledger>(otg: &mut Otg, looks: &mut Looks<L>) -> bool
+pub(crate) fn steps_down<L: Ledger>(otg: &mut Otg, looks: &mut Counter<L>) -> bool
     ensures opened { IsTrue result → IsOpen otg.old × IsOpen otg.new }
     ensures step { IsTrue result → IsStepOf otg.old otg.new }
     ensures same { result ≡ false → otg.new ≡ otg.old }
@@ -119,7 +119,7 @@ fn are_rates_within(otg: &Otg) -> bool
 }
 
 // The speed of the move, where its own rates keep the motion.
-fn speed_of_move<L: Ledger>(otg: &Otg, looks: &mut Looks<L>) -> Option<u64>
+fn speed_of_move<L: Ledger>(otg: &Otg, looks: &mut Counter<L>) -> Option<u64>
     requires own { IsOwnMove otg.now }
     ensures found { (x : ℕ) → result ≡ Some x → IsMoveOf (rates_of_command otg.now) (unsigned_abs (otg.now.target -ℤ otg.now.current))
         (unsigned_abs (otg.now.before -ℤ otg.now.first)) (unsigned_abs (otg.now.current -ℤ otg.now.before)) x }

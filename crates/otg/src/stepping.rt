@@ -7,7 +7,7 @@ ghost use Rattle.otg.specs.Open.{IsOpen, IsStepOf, IsStepTaken, IsWantedStep, sh
 use crate::generator::{Otg, limits, own_rates, setpoints};
 use crate::opening::{INVALID, OK, is_open_counted};
 use crate::own::{steps_down, steps_up};
-use jerk_core::{Looks, nearest_safe_counted};
+use jerk_core::{Counter, nearest_safe_counted};
 use jerk_plan::{halt_step, move_step_counted, velocity_step};
 use motion_numbers::{MOST_STEP, MOST_WAY};
 use std::marker::Brand;
@@ -36,12 +36,12 @@ fn step_by<L: Ledger>(otg: &mut Otg, blank: Blank) -> u32
     ensures codes { result ≤ 1 }
     ensures same { result ≢ 0 → otg.new ≡ otg.old }
 {
-    let mut looks = Looks::<L>::open(blank);
+    let mut looks = Counter::<L>::open(blank);
     step_counted(otg, &mut looks)
 }
 
 /// The same, with its looks at the way to rest counted.
-pub fn step_counted<L: Ledger>(otg: &mut Otg, looks: &mut Looks<L>) -> u32
+pub fn step_counted<L: Ledger>(otg: &mut Otg, looks: &mut Counter<L>) -> u32
     ensures code { (result ≡ 0) ↔ IsOpen otg.old }
     ensures opened { result ≡ 0 → IsOpen otg.new }
     ensures step { result ≡ 0 → IsStepOf otg.old otg.new }
@@ -59,7 +59,7 @@ pub fn step_counted<L: Ledger>(otg: &mut Otg, looks: &mut Looks<L>) -> u32
 }
 
 // The same, for any motion and command.
-fn step_by_any<L: Ledger>(otg: &mut Otg, looks: &mut Looks<L>) -> u32
+fn step_by_any<L: Ledger>(otg: &mut Otg, looks: &mut Counter<L>) -> u32
     ensures code { (result ≡ 0) ↔ IsOpen otg.old }
     ensures opened { result ≡ 0 → IsOpen otg.new }
     ensures step { result ≡ 0 → IsStepOf otg.old otg.new }
@@ -89,7 +89,7 @@ pub(crate) fn shifted(otg: &Otg, next: i64) -> Otg
 }
 
 // The next setpoint.
-fn next_setpoint<L: Ledger>(otg: &Otg, looks: &mut Looks<L>) -> i64
+fn next_setpoint<L: Ledger>(otg: &Otg, looks: &mut Counter<L>) -> i64
     requires opened { IsOpen otg.now }
     ensures taken { IsStepTaken otg.now (result -ℤ otg.now.current) }
     ensures cost { looks.new ≤ looks.old + 149 }
@@ -98,7 +98,7 @@ fn next_setpoint<L: Ledger>(otg: &Otg, looks: &mut Looks<L>) -> i64
 }
 
 // The step that is nearest to the command's among the safe ones.
-fn taken_step<L: Ledger>(otg: &Otg, looks: &mut Looks<L>) -> i64
+fn taken_step<L: Ledger>(otg: &Otg, looks: &mut Counter<L>) -> i64
     requires opened { IsOpen otg.now }
     ensures taken { IsStepTaken otg.now result }
     ensures small { IsStep result }
@@ -118,7 +118,7 @@ fn moved(setpoint: i64, step: i64) -> i64
 }
 
 // The step that the command wants.
-fn wanted_step<L: Ledger>(otg: &Otg, looks: &mut Looks<L>) -> i64
+fn wanted_step<L: Ledger>(otg: &Otg, looks: &mut Counter<L>) -> i64
     requires opened { IsOpen otg.now }
     ensures wanted { IsWantedStep otg.now result }
     ensures small { unsigned_abs result ≤ 2 * MOST_WAY }

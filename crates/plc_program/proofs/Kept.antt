@@ -22,6 +22,7 @@ use Rattle.machine_words.specs.RuleNumbers.{no_value, no_version, out_of_place, 
 use Rattle.machine_words.specs.declared.units.Units.TheVariants.{User}
 use Rattle.motion_history.specs.Faults.{block_fault, name_fault, task_fault}
 use Rattle.motion_history.specs.Setup.{Setup}
+use Rattle.motion_history.specs.declared.refused.TraceVersion.TheVariants.{Two}
 use Rattle.motion_history.specs.declared.config.BlockDef.{BlockDef}
 use Rattle.plc_program.specs.Calls.{call_meaning}
 use Rattle.plc_program.specs.Forms.{form_of, is_counted}
@@ -212,7 +213,7 @@ block-adds s task (name ∷ []) u h = absurd (cc)
 block-adds s task (name ∷ of_kind ∷ []) u h = absurd (cc)
 block-adds s task (name ∷ of_kind ∷ of_object ∷ []) u h =
     let free = bind_ok (broken_by rule_of (name_fault s name)) _ u h in
-    let kind = bind_ok (kind_of of_kind) _ u free.2 in
+    let kind = bind_ok (kind_of Two of_kind) _ u free.2 in
     let object = bind_ok (object_named s kind.0 of_object) _ u kind.2 in
     let fits = bind_ok (broken_by rule_of (block_fault s name task kind.0 object.0)) _ u object.2 in
     let b : BlockDef = record { name = name; task = task; kind = kind.0; object = object.0 } in

@@ -11,6 +11,7 @@ use Rattle.machine_words.specs.Rules.{broken_by, rule_of}
 use Rattle.machine_words.specs.RuleNumbers.{no_value, out_of_range, wrong_count}
 use Rattle.motion_history.specs.Faults.{block_fault, name_fault}
 use Rattle.motion_history.specs.Setup.{Setup}
+use Rattle.motion_history.specs.declared.refused.TraceVersion.TheVariants.{Two}
 use Rattle.plc_program.specs.Named.{block_named}
 use Rattle.plc_program.specs.Programs.{is_called}
 use Rattle.plc_program.specs.SoFar.{SoFar, task_of}
@@ -21,7 +22,7 @@ use Rattle.plc_program.specs.declared.program.Instruction.TheVariants.{Wait, Rep
 unfoldable pub block_meaning : Setup → ℕ → List (List ℕ) → Result Setup ℕ
 block_meaning s task (name ∷ of_kind ∷ of_object ∷ []) = do
   _ ← broken_by rule_of (name_fault s name)
-  kind ← kind_of of_kind
+  kind ← kind_of Two of_kind
   object ← object_named s kind of_object
   _ ← broken_by rule_of (block_fault s name task kind object)
   Ok (record s {

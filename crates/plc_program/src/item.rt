@@ -6,7 +6,7 @@ ghost use Rattle.plc_program.specs.Lines as spec;
 
 use line_text::LineFault;
 use machine_words::{WRONG_COUNT, free_name, kind_of, object_named, refusal_of};
-use motion_history::Builder;
+use motion_history::{Builder, TraceVersion};
 
 /// Adds the block of a line to a task.
 #[tactic(auto, unfolding(crate::specs::Lines::block_meaning))]
@@ -17,7 +17,7 @@ pub fn add_block(machine: &mut Builder, task: u8, words: &[&[u8]]) -> Result<(),
         return Err(LineFault::Rule(WRONG_COUNT));
     };
     free_name(machine, name)?;
-    let kind = kind_of(kind)?;
+    let kind = kind_of(TraceVersion::Two, kind)?;
     let object = object_named(machine, kind, object)?;
     match machine.block(name, task, kind, object) {
         Ok(_) => Ok(()),

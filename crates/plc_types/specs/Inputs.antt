@@ -3,7 +3,7 @@ use Rattle.std.specs.Prelude.{◌≡◌, ℕ, ◌≤◌, Bool, true, false, ℤ,
 use Rattle.std.specs.List.{list_any}
 use Rattle.motion_numbers.specs.declared.TheConstants.{MOST_NUMBER}
 use Rattle.plc_types.specs.declared.kind.BlockKind.{BlockKind}
-use Rattle.plc_types.specs.declared.kind.BlockKind.TheVariants.{Power, Reset, Home, Stop, Halt, MoveAbsolute, MoveRelative, MoveVelocity, GearIn, GearOut, CamIn, CamOut, GroupEnable, GroupDisable, GroupReset, GroupStop, GroupHalt, MoveLinearAbsolute, MoveCircularAbsolute}
+use Rattle.plc_types.specs.declared.kind.BlockKind.TheVariants.{Power, Reset, Home, Stop, Halt, MoveAbsolute, MoveRelative, MoveVelocity, GearIn, GearOut, CamIn, CamOut, GroupEnable, GroupDisable, GroupReset, GroupStop, GroupHalt, MoveLinearAbsolute, MoveCircularAbsolute, MoveAdditive}
 use Rattle.plc_types.specs.declared.kind.BufferMode.TheVariants.{Aborting}
 use Rattle.plc_types.specs.declared.inputs.Input.{Input}
 use Rattle.plc_types.specs.declared.inputs.Input.TheVariants.{Position, Velocity, Acceleration, Deceleration, Jerk, Mode, Master, Numerator, Denominator, Table}
@@ -35,6 +35,7 @@ inputs_of GroupStop = Deceleration ∷ Jerk ∷ []
 inputs_of GroupHalt = Deceleration ∷ Jerk ∷ []
 inputs_of MoveLinearAbsolute = Position ∷ motion_inputs
 inputs_of MoveCircularAbsolute = Position ∷ motion_inputs
+inputs_of MoveAdditive = Position ∷ motion_inputs
 
 -- whether two inputs are the same
 abbrev pub is_same : Input → Input → Bool

@@ -1,5 +1,5 @@
 -- The names of kinds of function block and of buffer modes, as texts have them.
-use Rattle.std.specs.Prelude.{◌≡◌, ℕ, List, codes, Option, Some}
+use Rattle.std.specs.Prelude.{◌≡◌, ◌≤◌, ℕ, List, codes, if◌then◌else◌, nat_le, Option, Some, None}
 use Rattle.std.specs.List.{find}
 use Rattle.std.specs.Str.{bytes_eq}
 use Rattle.plc_types.specs.declared.kind.BlockKind.{BlockKind}
@@ -29,10 +29,25 @@ kind_name kind.GroupStop = codes "GroupStop"
 kind_name kind.GroupHalt = codes "GroupHalt"
 kind_name kind.MoveLinearAbsolute = codes "MoveLinearAbsolute"
 kind_name kind.MoveCircularAbsolute = codes "MoveCircularAbsolute"
+kind_name kind.MoveAdditive = codes "MoveAdditive"
 
 -- the kind of this name. PLCopen Motion Control Part 1 and Part 4
 unfoldable pub kind_named : List ℕ → Option BlockKind
 kind_named name = find (λ k. bytes_eq (kind_name k) name) KINDS
+
+-- the first version of the texts that has a kind. This project's profile
+abbrev pub first_version : BlockKind → ℕ
+first_version kind.MoveAdditive = 3
+first_version _ = 1
+
+-- a kind, where a version of the texts has it
+abbrev pub kind_of_version : ℕ → Option BlockKind → Option BlockKind
+kind_of_version version None = None
+kind_of_version version (Some k) = if nat_le (first_version k) version then Some k else None
+
+-- the kind of this name in a version of the texts
+abbrev pub kind_in : ℕ → List ℕ → Option BlockKind
+kind_in version name = kind_of_version version (kind_named name)
 
 -- the names of the buffer modes. PLCopen Motion Control Part 1, the input BufferMode
 unfoldable pub mode_name : BufferMode → List ℕ
@@ -50,4 +65,5 @@ mode_named name = find (λ m. bytes_eq (mode_name m) name) MODES
 -- each name is read as what it names
 pub record AreNamed : Type 0 where
   pub kinds : (k : BlockKind) → kind_named (kind_name k) ≡ Some k
+  pub versions : (v : ℕ) (k : BlockKind) → first_version k ≤ v → kind_in v (kind_name k) ≡ Some k
   pub modes : (m : BufferMode) → mode_named (mode_name m) ≡ Some m

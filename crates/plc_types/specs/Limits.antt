@@ -1,5 +1,5 @@
 -- The limits that an axis may have.
-use Rattle.std.specs.Prelude.{◌≤◌, pos, ◌≤ℤ◌}
+use Rattle.std.specs.Prelude.{pos, ◌≤ℤ◌}
 use Rattle.motion_numbers.specs.declared.TheConstants.{MOST_STEP, MOST_WAY}
 use Rattle.motion_numbers.specs.Ranges.{IsPlace}
 use Rattle.plc_types.specs.declared.limits.Limits.{Limits}

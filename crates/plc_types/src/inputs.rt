@@ -87,6 +87,7 @@ fn takes_position(kind: BlockKind) -> bool
         BlockKind::Home
             | BlockKind::MoveAbsolute
             | BlockKind::MoveRelative
+            | BlockKind::MoveAdditive
             | BlockKind::MoveLinearAbsolute
             | BlockKind::MoveCircularAbsolute
     )
@@ -100,6 +101,7 @@ fn moves_by_velocity(kind: BlockKind) -> bool
         kind,
         BlockKind::MoveAbsolute
             | BlockKind::MoveRelative
+            | BlockKind::MoveAdditive
             | BlockKind::MoveVelocity
             | BlockKind::CamIn
             | BlockKind::MoveLinearAbsolute

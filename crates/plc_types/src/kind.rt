@@ -25,6 +25,7 @@ pub enum BlockKind {
     GroupHalt,
     MoveLinearAbsolute,
     MoveCircularAbsolute,
+    MoveAdditive,
 }
 
 impl BlockKind {

@@ -5,8 +5,8 @@ ghost use Rattle.plc_types.specs.KindNames as spec;
 
 use crate::kind::{BlockKind, BufferMode};
 
-/// The kinds of function block.
-pub const KINDS: [BlockKind; 19] = [
+/// The kinds of function block; those that came with version 3 of the texts stand last.
+pub const KINDS: [BlockKind; 20] = [
     BlockKind::Power,
     BlockKind::Reset,
     BlockKind::Home,
@@ -26,6 +26,7 @@ pub const KINDS: [BlockKind; 19] = [
     BlockKind::GroupHalt,
     BlockKind::MoveLinearAbsolute,
     BlockKind::MoveCircularAbsolute,
+    BlockKind::MoveAdditive,
 ];
 
 /// The buffer modes.
@@ -63,6 +64,7 @@ pub fn kind_name(kind: BlockKind) -> &'static str
         BlockKind::GroupHalt => "GroupHalt",
         BlockKind::MoveLinearAbsolute => "MoveLinearAbsolute",
         BlockKind::MoveCircularAbsolute => "MoveCircularAbsolute",
+        BlockKind::MoveAdditive => "MoveAdditive",
     }
 }
 
@@ -75,6 +77,26 @@ pub fn kind_named(name: &[u8]) -> Option<BlockKind>
         .iter()
         .find(|kind| kind_name(**kind).as_bytes() == name)
         .copied()
+}
+
+/// The first version of the texts that has a kind.
+pub fn first_version(kind: BlockKind) -> u8
+    ensures { result ≡ spec.first_version kind }
+{
+    match kind {
+        BlockKind::MoveAdditive => 3,
+        _ => 1,
+    }
+}
+
+/// The kind of this name in a version of the texts, 1 to 3.
+pub fn kind_in(version: u8, name: &[u8]) -> Option<BlockKind>
+    ensures { result ≡ spec.kind_in version name.now }
+{
+    match kind_named(name) {
+        Some(kind) if first_version(kind) <= version => Some(kind),
+        _ => None,
+    }
 }
 
 /// The name of a buffer mode.

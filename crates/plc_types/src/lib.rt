@@ -29,7 +29,9 @@ pub use group::{GroupRow, GroupState};
 pub use inputs::{INPUTS_OFF, Input, Inputs, takes};
 pub use kind::{BlockKind, BufferMode};
 pub use kind_inputs::are_inputs;
-pub use kind_names::{KINDS, MODES, kind_name, kind_named, mode_name, mode_named};
+pub use kind_names::{
+    KINDS, MODES, first_version, kind_in, kind_name, kind_named, mode_name, mode_named,
+};
 pub use laws::{
     counts_are_read_back, homing_keeps_counts, names_are_read_back, offsets_are_small,
     setpoints_have_counts, starts_are_counts, targets_lie_near,

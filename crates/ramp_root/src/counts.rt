@@ -4,13 +4,13 @@ ghost use Rattle.ramp_root.specs.Laws.{AreSums};
 ghost use Rattle.ramp_root.specs.Sums.{sum_of};
 
 use crate::roots::root;
-use crate::steps::Steps;
+use motion_numbers::Counter;
 use std::marker::Brand;
 use std::sync::ledger::{Blank, Ledger};
 
 /// Whether the sum of `k` terms, of which the first is `r` and each next one is greater by `d`, is
 /// at most `l`. One step.
-pub fn fits<L: Ledger>(k: u64, l: u128, d: u64, r: u64, steps: &mut Steps<L>) -> bool
+pub fn fits<L: Ledger>(k: u64, l: u128, d: u64, r: u64, steps: &mut Counter<L>) -> bool
     requires terms { k ≤ 2 ^ 40 }
     requires sum { l < 2 ^ 70 }
     requires rise { d ≤ 2 ^ 40 }
@@ -52,12 +52,12 @@ fn count_from<L: Ledger>(l: u128, d: u64, r: u64, blank: Blank) -> u64
     ensures greatest { (k : ℕ) → sum_of k d r ≤ l → k ≤ result }
     ensures small { result < 2 ^ 36 }
 {
-    let mut steps = Steps::<L>::open(blank);
+    let mut steps = Counter::<L>::open(blank);
     greatest_count_counted(l, d, r, &mut steps)
 }
 
 /// The same count, with its steps counted.
-pub fn greatest_count_counted<L: Ledger>(l: u128, d: u64, r: u64, steps: &mut Steps<L>) -> u64
+pub fn greatest_count_counted<L: Ledger>(l: u128, d: u64, r: u64, steps: &mut Counter<L>) -> u64
     requires sum { l < 2 ^ 70 }
     requires least_rise { 0 < d }
     requires rise { d ≤ 2 ^ 40 }

@@ -6,11 +6,10 @@
 mod counts;
 mod reaches;
 mod roots;
-mod steps;
 
 pub use counts::{
     fits, greatest_count, greatest_count_counted, sums_in_closed_form, sums_of_ramps,
 };
+pub use motion_numbers::Counter;
 pub use reaches::reach;
 pub use roots::root;
-pub use steps::Steps;

@@ -3,15 +3,14 @@ ghost use Rattle.std.specs.Prelude.{◌≡◌, ◌+◌, ◌≤◌};
 ghost use Rattle.motion_numbers.specs.Run.{reach_of};
 
 use crate::counts::greatest_count_counted;
-use crate::steps::Steps;
-use motion_numbers::{MOST_STEP, MOST_WAY, ways_to_rest};
+use motion_numbers::{Counter, MOST_STEP, MOST_WAY, ways_to_rest};
 use std::sync::ledger::Ledger;
 
 /// The greatest step from which braking by `d` each cycle needs no more than the way, in internal
 /// units. It takes one greatest count.
 // It is needed about twice in a move, and out of line it leaves the other cycles short.
 #[inline(never)]
-pub fn reach<L: Ledger>(way: u64, d: u64, steps: &mut Steps<L>) -> u64
+pub fn reach<L: Ledger>(way: u64, d: u64, steps: &mut Counter<L>) -> u64
     requires least { 1 ≤ d }
     requires most { d ≤ MOST_STEP }
     requires way { way ≤ MOST_WAY }

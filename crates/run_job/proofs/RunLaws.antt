@@ -12,7 +12,6 @@ use Rattle.machine_drives.specs.Drives.{drives_at_opening}
 use Rattle.motion_history.specs.Entries.{Entry, cycles_of}
 use Rattle.motion_history.specs.Setup.{Setup}
 use Rattle.motion_history.specs.declared.drives.DriveDef.{DriveDef}
-use Rattle.motion_history.specs.declared.refused.TraceVersion.TheVariants.{Two}
 use Rattle.motion_kernel.specs.Tasks.{live_tasks}
 use Rattle.motion_plant.specs.Ran.{PlantRan}
 use Rattle.motion_plant.specs.declared.ending.RunEnding.{RunEnding}
@@ -23,7 +22,7 @@ use Rattle.plc_program.specs.Programs.{IsProgramOf}
 use Rattle.plc_program.specs.declared.program.Instruction.{Instruction}
 use Rattle.setpoint_ring.specs.declared.logs.DriveLog.{DriveLog}
 use Rattle.trace_check.specs.KeptHistories.{IsReadBack}
-use Rattle.trace_text.specs.Trace.{trace_text}
+use Rattle.trace_text.specs.Trace.{run_version, trace_text}
 use Rattle.trace_text.specs.writing.Writes.{Output, Writes}
 use Rattle.trace_text.specs.declared.command.Command.TheVariants.{Run}
 use Rattle.trace_text.specs.declared.drive_end.DriveEndRow.{DriveEndRow}
@@ -48,17 +47,17 @@ ended-so s h ending.HistoryFull ok over full room =
 pub wrote : (s : Setup) (h : List Entry) (logs : List DriveLog) (old new : Output) (e : RunEnding)
     (rows : List DriveEndRow) (given r : Status) (written : Result (Unit {0}) TraceFault) →
     HasEnded (status_of e) s h → given ≡ status_of e → rows ≡ map end_row logs →
-    Writes old new (trace_text Two Run s h rows) written → IsReadBack Two Run s h rows →
+    Writes old new (trace_text (run_version s) Run s h rows) written → IsReadBack (run_version s) Run s h rows →
     r ≡ status_by given written → WritesTrace s h logs old new r
 wrote s h logs old new e rows given r written has is same writes back by = record {
   status = status_of e;
   ended = has;
   ends = record {
     written = written;
-    writes = subst (λ ds. Writes old new (trace_text Two Run s h ds) written) same writes;
+    writes = subst (λ ds. Writes old new (trace_text (run_version s) Run s h ds) written) same writes;
     status = by ∙ ap (λ x. status_by x written) is;
   };
-  again = λ t. subst (λ ds. IsReadBack Two Run s h ds) same back;
+  again = λ t. subst (λ ds. IsReadBack (run_version s) Run s h ds) same back;
 }
 
 -- nothing was written, for out of memory

@@ -9,7 +9,6 @@ use Rattle.machine_drives.specs.Drives.{drives_at_opening}
 use Rattle.motion_history.specs.Entries.{Entry}
 use Rattle.motion_history.specs.Setup.{Setup}
 use Rattle.motion_history.specs.declared.drives.DriveDef.{DriveDef}
-use Rattle.motion_history.specs.declared.refused.TraceVersion.TheVariants.{Two}
 use Rattle.motion_plant.specs.Ran.{PlantRan}
 use Rattle.outside.specs.Told.{FileMap}
 use Rattle.plc_program.specs.Programs.{IsProgramOf}
@@ -17,6 +16,7 @@ use Rattle.plc_program.specs.Reading.{Outcome}
 use Rattle.plc_program.specs.declared.program.Instruction.{Instruction}
 use Rattle.setpoint_ring.specs.declared.logs.DriveLog.{DriveLog}
 use Rattle.trace_check.specs.KeptHistories.{IsReadBack}
+use Rattle.trace_text.specs.Trace.{run_version}
 use Rattle.trace_text.specs.declared.command.Command.TheVariants.{Run}
 use Rattle.trace_text.specs.writing.Writes.{Output}
 use Rattle.run_job.specs.Causes.{run_job}
@@ -32,7 +32,7 @@ pub record WritesTrace (setup : Setup) (h : List Entry) (logs : List DriveLog) (
   pub ended : HasEnded status setup h
   pub ends : EndsBy old new (run_plan status setup h (map end_row logs)) s
   -- where the status stands for a trace, its text is read as that of all this
-  pub again : is_traced s ≡ true → IsReadBack Two Run setup h (map end_row logs)
+  pub again : is_traced s ≡ true → IsReadBack (run_version setup) Run setup h (map end_row logs)
 
 -- a plant ran, and the trace of its history was written
 pub record WritesRun (Started : ℕ → Type 0) (setup : Setup) (program : List (List Instruction))

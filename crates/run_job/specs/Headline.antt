@@ -8,10 +8,9 @@ use Rattle.machine_config.specs.declared.machine.Machine.{Machine}
 use Rattle.machine_drives.specs.Drives.{drive_end, drives_after, drives_at_opening}
 use Rattle.motion_history.specs.Entries.{Entry, cycles_of}
 use Rattle.motion_history.specs.Setup.{Setup}
-use Rattle.motion_history.specs.declared.refused.TraceVersion.TheVariants.{Two}
 use Rattle.motion_kernel.specs.Histories.{IsLegal}
 use Rattle.motion_kernel.specs.Tasks.{live_tasks}
-use Rattle.motion_laws.specs.Laws.{KeepsLaws}
+use Rattle.motion_laws.specs.Headline.{KeepsHeadline}
 use Rattle.motion_plant.specs.Driven.{IsAlive, IsDriven}
 use Rattle.motion_plant.specs.Makers.{entries_by}
 use Rattle.motion_plant.specs.Places.{Each}
@@ -21,7 +20,7 @@ use Rattle.plc_program.specs.Programs.{IsProgramOf}
 use Rattle.plc_program.specs.Spelled.{IsProgramText}
 use Rattle.plc_program.specs.declared.program.Instruction.{Instruction}
 use Rattle.trace_check.specs.KeptHistories.{IsReadBack}
-use Rattle.trace_text.specs.Trace.{trace_text}
+use Rattle.trace_text.specs.Trace.{run_version, trace_text}
 use Rattle.trace_text.specs.declared.command.Command.TheVariants.{Run}
 use Rattle.trace_text.specs.declared.drive_end.DriveEndRow.{DriveEndRow}
 
@@ -54,11 +53,11 @@ pub record RunHeadline (files : Option FileMap) (config program : List ℕ)
   pub each : length machine.drives ≡ length setup.axes
   -- as many jobs were started as there are drives and tasks
   pub started : Started (length setup.axes + length setup.tasks)
-  -- this history was made: each of its replies and rows is the PLCopen machine's, and it keeps the
-  -- machine's laws
+  -- this history was made: each of its replies and rows is the PLCopen machine's; its axes keep
+  -- their limits, their moves arrive, and their drives are given their setpoints
   pub history : List Entry
   pub legal : IsLegal setup history
-  pub laws : KeepsLaws setup history
+  pub motion : KeepsHeadline setup history
   -- each task made the calls of its program by its own replies, in order and each once; where it
   -- ended, all of them, and its end
   pub made : Each (λ t lines. TaskMeets setup lines t history) tasks
@@ -75,7 +74,7 @@ pub record RunHeadline (files : Option FileMap) (config program : List ℕ)
       (drives_after 0 (drives_at_opening setup.axes machine.drives) history)
   -- the status says how the history ends
   pub ended : HasEnded s setup history
-  -- what was written is the text of all this, in version 2
-  pub written : Appends old new (trace_text Two Run setup history drives)
+  -- what was written is the text of all this, in its version
+  pub written : Appends old new (trace_text (run_version setup) Run setup history drives)
   -- and that text is read as the trace of all this
-  pub again : IsReadBack Two Run setup history drives
+  pub again : IsReadBack (run_version setup) Run setup history drives

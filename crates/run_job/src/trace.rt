@@ -6,7 +6,7 @@ ghost use Rattle.run_job.specs.Ends.{WritesTrace};
 ghost use Rattle.run_job.specs.Plans as plans;
 ghost use Rattle.trace_check.specs.KeptHistories.{IsReadBack};
 ghost use Rattle.trace_text.specs.RowRanges.{IsDriveEnd};
-ghost use Rattle.trace_text.specs.Trace.{trace_text};
+ghost use Rattle.trace_text.specs.Trace.{run_version, trace_text};
 ghost use Rattle.trace_text.specs.writing.Writes.{Writes};
 
 use cia402_machine::state_of;
@@ -18,7 +18,7 @@ use plc_types::DriveState;
 use setpoint_ring::DriveLog;
 use std::alloc::{AllocError, Global};
 use trace_check::kept_histories_are_read_back;
-use trace_text::{Command, DriveEndRow, TraceFault, write_trace};
+use trace_text::{Command, DriveEndRow, TraceFault, trace_version, write_trace};
 
 /// Writes the trace of a plant's run, and answers how the run ended.
 pub fn write_run<K: Sink>(alloc: Global, end: &PlantEnd, out: &mut K) -> Status
@@ -43,7 +43,8 @@ pub fn write_run<K: Sink>(alloc: Global, end: &PlantEnd, out: &mut K) -> Status
 // of its history, and a row of what its drive took, what a trace asks for. Nothing else runs.
 fn trace_is_read_back(end: &PlantEnd, rows: &[DriveEndRow])
     requires each { length rows.now ≡ length end.now.kernel.config.axes }
-    ensures { IsReadBack TraceVersion.Two Command.Run end.now.kernel.config end.now.kernel.history
+    ensures { IsReadBack (run_version end.now.kernel.config) Command.Run end.now.kernel.config
+        end.now.kernel.history
         rows.now }
 {
     // law: the trace of a history that a kernel keeps is read back
@@ -96,13 +97,14 @@ fn write_rows<K: Sink>(
     requires each { length rows.now ≡ length end.now.kernel.config.axes }
     ensures { Writes (record { count = K.count out.old; told = K.told out.old })
         (record { count = K.count out.new; told = K.told out.new })
-        (trace_text TraceVersion.Two Command.Run end.now.kernel.config end.now.kernel.history
+        (trace_text (run_version end.now.kernel.config) Command.Run end.now.kernel.config
+        end.now.kernel.history
         rows.now) result }
 {
     let history = end.kernel.history();
     write_trace(
         alloc,
-        TraceVersion::Two,
+        trace_version(TraceVersion::Two, end.kernel.config()),
         Command::Run,
         end.kernel.config(),
         history,

@@ -16,7 +16,7 @@ ghost use Rattle.motion_laws.specs.Orders.{AreOrders, IsHeldByStop, IsOrder, IsQ
 ghost use Rattle.segment_check.specs.Flaws.{HaveOrders};
 ghost use Rattle.segment_check.specs.Queued.{AreQueued, Follows, HasOrders};
 
-use axis_core::{Axis, BlockKind, BufferMode, Follow, Wanted, may_wait};
+use axis_core::{Axis, BlockKind, BufferMode, Follow, Goal, Wanted, may_wait, profile_for};
 use motion_history::Config;
 use motion_kernel::Start;
 
@@ -79,11 +79,11 @@ fn asked_target(wanted: &Wanted) -> Option<i64>
     }
 }
 
-// Whether a kind moves so far from where it begins.
+// Whether a kind moves so far from another place.
 fn is_relative(kind: BlockKind) -> bool
     ensures { result ≡ orders.is_relative kind }
 {
-    matches!(kind, BlockKind::MoveRelative)
+    matches!(profile_for(kind).goal, Goal::FromBefore(_))
 }
 
 // Whether a command follows as its kind does.

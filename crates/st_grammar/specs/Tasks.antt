@@ -4,7 +4,7 @@
 use Rattle.std.specs.Prelude.{true, false, [], ◌∷◌}
 use Rattle.std.specs.Option.{option_map_or}
 use Rattle.plc_types.specs.declared.kind.BlockKind.{BlockKind}
-use Rattle.plc_types.specs.KindNames.{kind_named}
+use Rattle.plc_types.specs.KindNames.{kind_in}
 use Rattle.st_grammar.specs.Lines.{Line, takes, refuses}
 use Rattle.st_grammar.specs.declared.item.Item.TheVariants as item
 use Rattle.st_grammar.specs.declared.note.Note.TheVariants as note
@@ -73,7 +73,7 @@ block kind = takes (note.Block kind) (item.Open ∷ item.Object ∷ item.Close �
 abbrev pub sort : Token → Line
 sort (Word word.Bool) = takes note.Nothing (item.BoolStart ∷ [])
 sort (Word word.Dint) = takes note.Nothing (item.DintStart ∷ [])
-sort (Name n) = option_map_or block (kind_named n) refuses
+sort (Name n) = option_map_or block (kind_in 2 n) refuses
 sort (Kind kind) = block kind
 sort _ = refuses
 

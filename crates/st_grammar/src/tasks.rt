@@ -6,7 +6,7 @@ ghost use Rattle.st_grammar.specs.Tasks as spec;
 
 use crate::item::Item;
 use crate::note::{Note, Row};
-use plc_types::{BlockKind, kind_named};
+use plc_types::{BlockKind, kind_in};
 use st_tokens::{Sign, Token, Word};
 
 // A task, and others.
@@ -143,14 +143,14 @@ fn block(kind: BlockKind) -> Row
     )
 }
 
-// What is declared.
+// What is declared. The kinds are those of version 2.
 pub fn sort(token: &Token) -> Row
     ensures { line_of result ≡ spec.sort token.now }
 {
     match token {
         Token::Word(Word::Bool) => Row::Takes(Note::Nothing, &[Item::BoolStart]),
         Token::Word(Word::Dint) => Row::Takes(Note::Nothing, &[Item::DintStart]),
-        Token::Name(name) => match kind_named(name.bytes()) {
+        Token::Name(name) => match kind_in(2, name.bytes()) {
             Some(kind) => block(kind),
             None => Row::Refuses,
         },

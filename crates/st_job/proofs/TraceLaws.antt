@@ -15,13 +15,13 @@ use Rattle.machine_drives.proofs.EndsHeld.{ends-held}
 use Rattle.machine_drives.specs.Drives.{drive_end}
 use Rattle.motion_history.specs.Entries.{cycles_of}
 use Rattle.motion_history.specs.Setup.{Setup}
-use Rattle.motion_history.specs.declared.refused.TraceVersion.TheVariants.{Two}
 use Rattle.motion_kernel.specs.KernelState.{KernelState}
 use Rattle.trace_check.specs.KeptHistories.{IsKeptHistory, IsReadBack, KeptHistoriesAreReadBack}
-use Rattle.trace_text.specs.Trace.{trace_text}
+use Rattle.trace_text.specs.Trace.{run_version, trace_text}
 use Rattle.trace_text.specs.writing.Writes.{Output, Writes}
 use Rattle.trace_text.specs.declared.command.Command.TheVariants as command
 use Rattle.trace_text.specs.declared.writing.write.TraceFault.{TraceFault}
+use Rattle.trace_text.proofs.Versions.{run-holds}
 use Rattle.st_rounds.specs.Cell.{Cell}
 use Rattle.st_rounds.specs.LegalRun.{IsLegalRun}
 use Rattle.st_job.specs.Again.{IsTracedRun}
@@ -33,23 +33,23 @@ pub wrote : (old new : Output) (c : Cell) (k : KernelState) (drives : List Drive
     (ending : Result (Unit {0}) RunFault) (written : Result (Unit {0}) TraceFault) →
     run_at k drives ending ≡ run_of c →
     Writes old new
-    (trace_text Two command.Run c.setup k.history (map (drive_end (cycles_of k.history)) drives))
+    (trace_text (run_version c.setup) command.Run c.setup k.history (map (drive_end (cycles_of k.history)) drives))
     written → EndsBy old new (plan_of c) (status_by (status_of ending) written)
 wrote old new c k drives ending written e w = record {
   written = written;
   writes = subst (λ t. Writes old new t written)
-      (ap (λ (r : Run). trace_text Two command.Run c.setup r.history (drive_ends r)) e) w;
+      (ap (λ (r : Run). trace_text (run_version c.setup) command.Run c.setup r.history (drive_ends r)) e) w;
   status = ap (λ (r : Run). status_by (status_of r.ending) written) e;
 }
 
 -- a run is traced by its kernel and its drives
 pub traced-run : (c : Cell) (k : KernelState) (drives : List DriveSim)
     (ending : Result (Unit {0}) RunFault) → run_at k drives ending ≡ run_of c → IsLegalRun c →
-    IsReadBack Two command.Run c.setup k.history (map (drive_end (cycles_of k.history)) drives) →
+    IsReadBack (run_version c.setup) command.Run c.setup k.history (map (drive_end (cycles_of k.history)) drives) →
     IsTracedRun c
 traced-run c k drives ending e legal back = record {
   legal = legal;
-  again = subst (λ (r : Run). IsReadBack Two command.Run c.setup r.history (drive_ends r)) e back;
+  again = subst (λ (r : Run). IsReadBack (run_version c.setup) command.Run c.setup r.history (drive_ends r)) e back;
 }
 
 -- where there is no trace nothing is said of the run
@@ -60,10 +60,10 @@ untraced c s e t = absurd (let bad : true ≡ false = sym t ∙ e in cc)
 pub read-again : KeptHistoriesAreReadBack → (s : Setup) (k : KernelState) (drives : List DriveSim) →
     k.config ≡ s → length drives ≡ length s.axes → IsKeptHistory k.config k.history →
     All (λ (d : DriveSim). IsCount d.actual) drives →
-    IsReadBack Two command.Run s k.history (map (drive_end (cycles_of k.history)) drives)
+    IsReadBack (run_version s) command.Run s k.history (map (drive_end (cycles_of k.history)) drives)
 read-again read s k drives config many kept_by bits =
     let kept = subst (λ (x : Setup). IsKeptHistory x k.history) config kept_by in
     let few : cycles_of k.history < 4294967296 = omega (arith, kept.setup.within.sizes.cycles, kept.legal.cycles) in
-    read Two command.Run s k.history (map (drive_end (cycles_of k.history)) drives) kept tt
+    read (run_version s) command.Run s k.history (map (drive_end (cycles_of k.history)) drives) kept (run-holds s)
     (length-map drives (drive_end (cycles_of k.history)) ∙ many)
     (ends-held (cycles_of k.history) drives few bits)

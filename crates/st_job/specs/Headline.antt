@@ -7,14 +7,13 @@ use Rattle.machine_config.specs.Configured.{Configures}
 use Rattle.machine_config.specs.declared.machine.Machine.{Machine}
 use Rattle.machine_drives.specs.Drives.{drive_end, drives_after, drives_at_opening}
 use Rattle.motion_history.specs.Entries.{Entry, cycles_of}
-use Rattle.motion_history.specs.declared.refused.TraceVersion.TheVariants.{Two}
 use Rattle.motion_kernel.specs.Histories.{IsLegal}
-use Rattle.motion_laws.specs.Laws.{KeepsLaws}
+use Rattle.motion_laws.specs.Headline.{KeepsHeadline}
 use Rattle.outside.specs.Told.{FileMap, HasFile}
 use Rattle.st_build.specs.Spelled.{IsStText}
 use Rattle.st_tree.specs.declared.program.Task.{Task}
 use Rattle.trace_check.specs.KeptHistories.{IsReadBack}
-use Rattle.trace_text.specs.Trace.{trace_text}
+use Rattle.trace_text.specs.Trace.{run_version, trace_text}
 use Rattle.trace_text.specs.declared.command.Command.TheVariants.{Run}
 use Rattle.trace_text.specs.declared.drive_end.DriveEndRow.{DriveEndRow}
 use Rattle.st_rounds.specs.Cell.{Cell}
@@ -50,16 +49,17 @@ pub record StHeadline (files : Option FileMap) (config program : List ℕ)
   pub scans : (n : ℕ) (t : Task) → slice_get cell.trees n ≡ Some t →
       IsMadeBy cell n t (own_entries cell.setup n history)
   pub answers : Takes cell.setup (drives_at_opening cell.setup.axes cell.drives) history
-  -- each of its replies and rows is the PLCopen machine's, and it keeps the machine's laws
+  -- each of its replies and rows is the PLCopen machine's; its axes keep their limits, their moves
+  -- arrive, and their drives are given their setpoints
   pub legal : IsLegal cell.setup history
-  pub laws : KeepsLaws cell.setup history
+  pub motion : KeepsHeadline cell.setup history
   -- each drive took an output in each cycle, and is where these lead it
   pub drives : List DriveEndRow
   pub taken : drives ≡ map (drive_end (cycles_of history))
       (drives_after 0 (drives_at_opening cell.setup.axes cell.drives) history)
   -- the status says why the rounds ended
   pub ended : s ≡ status_of (run_of cell).ending
-  -- what was written is the text of all this, in version 2
-  pub written : Appends old new (trace_text Two Run cell.setup history drives)
+  -- what was written is the text of all this, in its version
+  pub written : Appends old new (trace_text (run_version cell.setup) Run cell.setup history drives)
   -- and that text is read as the trace of all this
-  pub again : IsReadBack Two Run cell.setup history drives
+  pub again : IsReadBack (run_version cell.setup) Run cell.setup history drives

@@ -6,8 +6,7 @@ use Rattle.bench_run.specs.declared.bench.RunFault.TheVariants.{CyclesOver, Hist
 use Rattle.job_ends.specs.Plans.{Plan}
 use Rattle.job_ends.specs.declared.status.Status.{Status}
 use Rattle.job_ends.specs.declared.status.Status.TheVariants as status
-use Rattle.motion_history.specs.declared.refused.TraceVersion.TheVariants.{Two}
-use Rattle.trace_text.specs.Trace.{trace_text}
+use Rattle.trace_text.specs.Trace.{run_version, trace_text}
 use Rattle.trace_text.specs.declared.command.Command.TheVariants as command
 use Rattle.st_rounds.specs.Cell.{Cell}
 use Rattle.st_rounds.specs.Rounds.{run_of}
@@ -18,9 +17,10 @@ status_of (Ok u) = status.Ok
 status_of (Err CyclesOver) = status.CyclesOver
 status_of (Err HistoryFull) = status.HistoryFull
 
--- the trace of its run, in version 2 and with the command `run`, as far as it went
+-- the trace of its run, in its version and with the command `run`, as far as it went
 abbrev pub plan_of : Cell → Plan
 plan_of c = record {
   status = status_of (run_of c).ending;
-  text = trace_text Two command.Run c.setup (run_of c).history (drive_ends (run_of c));
+  text = trace_text (run_version c.setup) command.Run c.setup (run_of c).history
+      (drive_ends (run_of c));
 }

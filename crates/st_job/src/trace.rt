@@ -10,7 +10,7 @@ ghost use Rattle.st_job.specs.Again.{IsTracedRun};
 ghost use Rattle.st_job.specs.Plans as plans;
 ghost use Rattle.st_rounds.specs.Ready.{AreReady};
 ghost use Rattle.trace_check.specs.KeptHistories.{IsReadBack};
-ghost use Rattle.trace_text.specs.Trace.{trace_text};
+ghost use Rattle.trace_text.specs.Trace.{run_version, trace_text};
 ghost use Rattle.trace_text.specs.writing.Writes.{Writes};
 
 use bench_run::{Ran, RunFault};
@@ -21,7 +21,9 @@ use outside::Sink;
 use st_rounds::{Controller, run_rounds};
 use std::alloc::{AllocError, Global};
 use trace_check::kept_histories_are_read_back;
-use trace_text::{Command, DriveEndRow, TraceFault, parts_are_beginnings, write_trace};
+use trace_text::{
+    Command, DriveEndRow, TraceFault, parts_are_beginnings, trace_version, write_trace,
+};
 
 /// Runs a machine with its tasks, and writes its trace.
 pub fn run_cell<K: Sink>(alloc: Global, cell: &Controller, out: &mut K) -> Status
@@ -44,7 +46,8 @@ pub fn run_cell<K: Sink>(alloc: Global, cell: &Controller, out: &mut K) -> Statu
 fn trace_is_read_back(cell: &Controller, ran: &Ran)
     requires config { ran.now.kernel.config ≡ cell.now.config }
     requires each { length ran.now.drives.items ≡ length cell.now.config.axes }
-    ensures { IsReadBack TraceVersion.Two Command.Run cell.now.config ran.now.kernel.history
+    ensures { IsReadBack (run_version cell.now.config) Command.Run cell.now.config
+        ran.now.kernel.history
         (map (drive_end (cycles_of ran.now.kernel.history)) ran.now.drives.items) }
 {
     // law: the trace of a history that a kernel keeps is read back
@@ -75,7 +78,7 @@ fn write_run<K: Sink>(
     requires each { length ran.now.drives.items ≡ length cell.now.config.axes }
     ensures { Writes (record { count = K.count out.old; told = K.told out.old })
         (record { count = K.count out.new; told = K.told out.new })
-        (trace_text TraceVersion.Two Command.Run cell.now.config ran.now.kernel.history
+        (trace_text (run_version cell.now.config) Command.Run cell.now.config ran.now.kernel.history
         (map (drive_end (cycles_of ran.now.kernel.history)) ran.now.drives.items)) result }
 {
     // laws
@@ -86,7 +89,7 @@ fn write_run<K: Sink>(
     };
     write_trace(
         alloc,
-        TraceVersion::Two,
+        trace_version(TraceVersion::Two, &cell.config),
         Command::Run,
         &cell.config,
         history,

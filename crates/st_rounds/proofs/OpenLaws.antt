@@ -13,7 +13,7 @@ use Rattle.motion_history.specs.Entries.{Entry}
 use Rattle.motion_history.specs.Setup.{Setup}
 use Rattle.motion_kernel.specs.Histories.{IsLegal}
 use Rattle.motion_kernel.specs.KernelState.{KernelState}
-use Rattle.motion_laws.specs.Laws.{KeepsLaws}
+use Rattle.motion_laws.specs.Headline.{KeepsHeadline}
 use Rattle.st_exec.specs.Compiled.{Compiled, no_program, program_at, program_of}
 use Rattle.st_exec.specs.Following.{IsOpened}
 use Rattle.st_tree.specs.declared.program.Task.{Task}
@@ -106,14 +106,14 @@ run-is p k k2 ds ds2 ps w at drives are e =
 -- the run that a kernel made is legal, as the kernel's history is
 pub legal-run : (c : Cell) (k : KernelState) (drives : List DriveSim)
     (w : Result (Unit {0}) RunFault) → k.config ≡ c.setup → run_at k drives w ≡ run_of c →
-    IsLegal k.config k.history → KeepsLaws k.config k.history → IsLegalRun c
-legal-run c k drives w config r legal laws =
+    IsLegal k.config k.history → KeepsHeadline k.config k.history → IsLegalRun c
+legal-run c k drives w config r legal motion =
     let h : k.history ≡ (run_of c).history = ap (λ (x : Run). x.history) r in
     let L : Setup → Type 0 = λ s. IsLegal s k.history in
     let M : List Entry → Type 0 = λ es. IsLegal c.setup es in
-    let N : Setup → Type 0 = λ s. KeepsLaws s k.history in
-    let O : List Entry → Type 0 = λ es. KeepsLaws c.setup es in
-    record { legal = subst M h (subst L config legal); laws = subst O h (subst N config laws) }
+    let N : Setup → Type 0 = λ s. KeepsHeadline s k.history in
+    let O : List Entry → Type 0 = λ es. KeepsHeadline c.setup es in
+    record { legal = subst M h (subst L config legal); motion = subst O h (subst N config motion) }
 
 -- a slice of a whole list that was written back
 pub slice-back : {A : Type 0} (n : ℕ) (new old : List A) → length new ≡ length old →

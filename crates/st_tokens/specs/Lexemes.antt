@@ -3,7 +3,7 @@ use Rattle.std.specs.Prelude.{ℕ, ◌+◌, ◌-◌, Bool, if◌then◌else◌, 
 use Rattle.std.specs.List.{prefix_len, starts_with, take_while}
 use Rattle.std.specs.Option.{option_map_or}
 use Rattle.plc_types.specs.Names.{is_name}
-use Rattle.plc_types.specs.KindNames.{kind_named}
+use Rattle.plc_types.specs.KindNames.{kind_in}
 use Rattle.st_tokens.specs.Bytes.{is_ascii, is_digit, is_gap, is_letter, is_name_byte}
 use Rattle.st_tokens.specs.Comments.{comment_length}
 use Rattle.st_tokens.specs.Numbers.{number_of}
@@ -19,9 +19,9 @@ use Rattle.st_tokens.specs.declared.token.Word.{Word}
 abbrev pub wrong : Lexeme
 wrong = record { token = Some token.Wrong; behind = 0 }
 
--- a word is the name of a kind of block, or too long
+-- a word is the name of a kind of block of version 2, or too long
 abbrev pub kind_token : List ℕ → Token
-kind_token word = option_map_or token.Kind (kind_named word) token.Wrong
+kind_token word = option_map_or token.Kind (kind_in 2 word) token.Wrong
 
 -- a word that is not reserved is a name where it is short enough
 abbrev pub name_token : List ℕ → Token

@@ -10,7 +10,7 @@ use crate::number::number_of;
 use crate::sign::{sign_at, sign_text};
 use crate::token::Token;
 use crate::word::word_named;
-use plc_types::{Name, is_name, kind_named};
+use plc_types::{Name, is_name, kind_in};
 
 /// A lexeme of a text: a token, or none at a blank, a line's end or a comment; and how many of its
 /// bytes stand after its first.
@@ -54,14 +54,14 @@ fn word_token(word: &[u8]) -> Token
     }
 }
 
-// The token that a word is which is not reserved.
+// The token that a word is which is not reserved. The kinds are those of version 2.
 fn name_token(word: &[u8]) -> Token
     ensures { result ≡ spec.name_token word.now }
 {
     if is_name(word) {
         return Token::Name(Name::new(word));
     }
-    match kind_named(word) {
+    match kind_in(2, word) {
         Some(kind) => Token::Kind(kind),
         None => Token::Wrong,
     }

@@ -8,8 +8,6 @@ use Rattle.plc_types.specs.declared.axis_state.AxisState.{AxisState}
 use Rattle.plc_types.specs.declared.axis_state.AxisState.TheVariants as state
 use Rattle.command_pool.specs.declared.ending.Finish.{Finish}
 use Rattle.command_pool.specs.declared.ending.Finish.TheVariants as finish
-use Rattle.plc_types.specs.declared.kind.BlockKind.{BlockKind}
-use Rattle.plc_types.specs.declared.kind.BlockKind.TheVariants as kind
 use Rattle.command_pool.specs.declared.wanted.Wanted.{Wanted}
 use Rattle.axis_core.specs.Cores.{Core}
 use Rattle.axis_core.specs.Cycles.{advance_in_cycle, core_after_answer}
@@ -17,6 +15,7 @@ use Rattle.axis_core.specs.Drives.{answer_error_of, has_fault, is_driven}
 use Rattle.buffer_modes.specs.Fates.{Fate}
 use Rattle.axis_core.specs.Fates.{command_fate, cycle_fate}
 use Rattle.axis_core.specs.Kinds.{event_of}
+use Rattle.axis_core.specs.Profiles.{profile_of}
 use Rattle.axis_core.specs.Refusals.{Asked}
 use Rattle.axis_state.specs.States.{is_error_stop, is_stopping}
 use Rattle.axis_core.specs.blocks.Gear.{out_event}
@@ -24,6 +23,8 @@ use Rattle.axis_core.specs.blocks.Halts.{is_at_rest}
 use Rattle.buffer_modes.specs.Owners.{is_released}
 use Rattle.axis_core.specs.blocks.Path.{place_on_path}
 use Rattle.axis_core.specs.declared.look.AxisLook.{AxisLook}
+use Rattle.axis_core.specs.declared.profile.Entry.{Entry}
+use Rattle.axis_core.specs.declared.profile.Entry.TheVariants.{Leaves}
 
 -- the events lead an axis from a state to another, each from a state of its row
 abbrev pub Lead : AxisState → List AxisEvent → AxisState → Type 0
@@ -44,17 +45,16 @@ events_by (Some e) = e ∷ []
 abbrev pub event_where : Bool → AxisEvent → List AxisEvent
 event_where holds e = if holds then e ∷ [] else []
 
--- the event by which a command becomes active in its call, where it does; a GearOut and a CamOut
--- have their own
-abbrev pub begin_events : BlockKind → Option Wanted → List AxisEvent
-begin_events k None = []
-begin_events kind.GearOut (Some w) = out_event ∷ []
-begin_events kind.CamOut (Some w) = out_event ∷ []
-begin_events k (Some w) = events_by (event_of w.kind)
+-- the event by which a command becomes active in its call, where it does, by how it enters: one
+-- that leaves a gear or a cam has its own. MC_GearOut and MC_CamOut
+abbrev pub begin_events : Entry → Option Wanted → List AxisEvent
+begin_events x None = []
+begin_events Leaves (Some w) = out_event ∷ []
+begin_events x (Some w) = events_by (event_of w.kind)
 
 -- the events of a command that is asked
 unfoldable pub command_events : Asked → Core → List AxisEvent
-command_events q c = begin_events q.wanted.kind (command_fate q c).begins
+command_events q c = begin_events (profile_of q.wanted.kind).entry (command_fate q c).begins
 
 -- a Power with Enable false outside ErrorStop. MC_Power
 abbrev pub power_events : Bool → AxisState → List AxisEvent

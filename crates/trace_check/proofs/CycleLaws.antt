@@ -10,10 +10,10 @@ use Rattle.plc_types.specs.declared.group.GroupRow.{GroupRow}
 use Rattle.motion_history.specs.Entries.{cycle}
 use Rattle.motion_history.specs.Setup.{Setup}
 use Rattle.motion_history.specs.declared.refused.TraceVersion.{TraceVersion}
-use Rattle.motion_history.specs.declared.refused.TraceVersion.TheVariants.{One, Two}
+use Rattle.motion_history.specs.declared.refused.TraceVersion.TheVariants.{One, Two, Three}
 use Rattle.trace_text.specs.Found.{CycleFound}
-use Rattle.trace_text.specs.Records.{cycle_fields, grow_fields, row_fields}
-use Rattle.trace_text.specs.RowRanges.{found_row}
+use Rattle.trace_text.specs.Records.{cycle_fields, grow_fields, reported_place, row_fields}
+use Rattle.trace_text.specs.RowRanges.{found_place, found_row}
 use Rattle.trace_text.specs.Trace.{entry_records, numbered}
 use Rattle.trace_text.specs.TraceState.{TraceState, entry_of, place_at}
 use Rattle.trace_text.specs.Writable.{found_entry, found_places, reported_places}
@@ -67,7 +67,7 @@ rows-alike v s xs rows places k h long each few =
 
 pub before-row : (v : TraceVersion) (s : Setup) (n : ℕ) (xs rows : List AxisRow) (gs grows : List GroupRow) (places : List ℤ) (k m : ℕ) → m ≡ 1 + k →
     ((j : ℕ) → j < k → IsFoundAt v s.axes xs rows (slice_get places) j) → (0 < k → length xs ≡ length rows) → length rows ≡ length s.axes → k ≤ length rows →
-    take m (entry_records v s (cycle n xs gs)) ≡ take m (found_entry_records s (found.Cycle (cycle_found n rows grows places)))
+    take m (entry_records v s (cycle n xs gs)) ≡ take m (found_entry_records v s (found.Cycle (cycle_found n rows grows places)))
 unfolding entry_records found_entry_records
 before-row v s n xs rows gs grows places zero m e h long each few = let one : m ≡ 1 = omega (arith, e) in rw one refl
 before-row v s n xs rows gs grows places (suc k) m e h long each few =
@@ -99,7 +99,7 @@ all-alike v s xs rows places h long each =
 
 pub before-grow : (v : TraceVersion) (s : Setup) (n : ℕ) (xs rows : List AxisRow) (gs grows : List GroupRow) (places : List ℤ) (k m : ℕ) → m ≡ 1 + length rows + k →
     ((j : ℕ) → IsFoundAt v s.axes xs rows (slice_get places) j) → length xs ≡ length rows → length rows ≡ length s.axes → take k gs ≡ take k grows →
-    take m (entry_records v s (cycle n xs gs)) ≡ take m (found_entry_records s (found.Cycle (cycle_found n rows grows places)))
+    take m (entry_records v s (cycle n xs gs)) ≡ take m (found_entry_records v s (found.Cycle (cycle_found n rows grows places)))
 unfolding entry_records found_entry_records
 before-grow v s n xs rows gs grows places k m e h long each same =
     let at : m ≡ suc (length rows + k) = omega (arith, e) in
@@ -128,16 +128,20 @@ rows-found v (d ∷ ds) (x ∷ xs) (r ∷ rows) p h a b =
     let later : map found_row xs ≡ rows = rows-found v ds xs rows (λ j. p (suc j)) (λ j. h (suc j)) (omega (arith, a)) (omega (arith, b)) in
     rw (here.row, later) refl
 
-places-found : (ds : List AxisDef) (xs rows : List AxisRow) (places : List ℤ) → ((j : ℕ) → IsFoundAt Two ds xs rows (slice_get places) j) → length xs ≡ length rows → length rows ≡ length ds → length places ≡ length ds → reported_places ds xs ≡ places
-places-found [] xs rows [] h a b c = refl
-places-found [] xs rows (p ∷ ps) h a b c = absurd (omega (arith, c))
-places-found (d ∷ ds) [] rows ps h a b c = absurd (omega (arith, a, b))
-places-found (d ∷ ds) (x ∷ xs) [] ps h a b c = absurd (omega (arith, a))
-places-found (d ∷ ds) (x ∷ xs) (r ∷ rows) [] h a b c = absurd (omega (arith, c))
-places-found (d ∷ ds) (x ∷ xs) (r ∷ rows) (p ∷ ps) h a b c =
+-- a version that has places
+abbrev HasPlaces : TraceVersion → Type 0
+HasPlaces v = (d : AxisDef) (r : AxisRow) → found_place v d r ≡ Some (reported_place d r)
+
+places-found : (v : TraceVersion) → HasPlaces v → (ds : List AxisDef) (xs rows : List AxisRow) (places : List ℤ) → ((j : ℕ) → IsFoundAt v ds xs rows (slice_get places) j) → length xs ≡ length rows → length rows ≡ length ds → length places ≡ length ds → reported_places ds xs ≡ places
+places-found v has [] xs rows [] h a b c = refl
+places-found v has [] xs rows (p ∷ ps) h a b c = absurd (omega (arith, c))
+places-found v has (d ∷ ds) [] rows ps h a b c = absurd (omega (arith, a, b))
+places-found v has (d ∷ ds) (x ∷ xs) [] ps h a b c = absurd (omega (arith, a))
+places-found v has (d ∷ ds) (x ∷ xs) (r ∷ rows) [] h a b c = absurd (omega (arith, c))
+places-found v has (d ∷ ds) (x ∷ xs) (r ∷ rows) (p ∷ ps) h a b c =
     let here = h 0 d x r refl refl refl in
-    let is = here.place in
-    let later : reported_places ds xs ≡ ps = places-found ds xs rows ps (λ j. h (suc j)) (omega (arith, a)) (omega (arith, b)) (omega (arith, c)) in
+    let is = sym (has d x) ∙ here.place in
+    let later : reported_places ds xs ≡ ps = places-found v has ds xs rows ps (λ j. h (suc j)) (omega (arith, a)) (omega (arith, b)) (omega (arith, c)) in
     cc (is, later)
 
 nothing : (ps : List ℤ) → length ps ≡ 0 → [] ≡ ps
@@ -147,7 +151,8 @@ nothing (p ∷ ps) e = absurd (omega (arith, e))
 all-places : (v : TraceVersion) (s : Setup) (xs rows : List AxisRow) (places : List ℤ) → ((j : ℕ) → IsFoundAt v s.axes xs rows (slice_get places) j) → length xs ≡ length rows → length rows ≡ length s.axes →
     length places ≡ places_with v (length s.axes) → found_places v s.axes xs ≡ places
 all-places One s xs rows places h a b c = nothing places c
-all-places Two s xs rows places h a b c = places-found s.axes xs rows places h a b c
+all-places Two s xs rows places h a b c = places-found Two (λ d r. refl) s.axes xs rows places h a b c
+all-places Three s xs rows places h a b c = places-found Three (λ d r. refl) s.axes xs rows places h a b c
 
 -- a cycle whose rows are found so is found so
 pub whole-cycle : (v : TraceVersion) (s : Setup) (n : ℕ) (xs rows : List AxisRow) (grows : List GroupRow) (places : List ℤ) → ((j : ℕ) → IsFoundAt v s.axes xs rows (slice_get places) j) → length xs ≡ length rows → length rows ≡ length s.axes →

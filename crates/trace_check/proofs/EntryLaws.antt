@@ -11,7 +11,7 @@ use Rattle.plc_types.specs.declared.axis.AxisRow.{AxisRow}
 use Rattle.motion_history.specs.Entries.{Entry, call, cycle, end_of}
 use Rattle.motion_history.specs.Setup.{Setup}
 use Rattle.motion_history.specs.declared.refused.TraceVersion.{TraceVersion}
-use Rattle.motion_history.specs.declared.refused.TraceVersion.TheVariants.{One, Two}
+use Rattle.motion_history.specs.declared.refused.TraceVersion.TheVariants.{One, Two, Three}
 use Rattle.motion_kernel.specs.Machine.{Machine}
 use Rattle.trace_text.specs.Records.{row_fields}
 use Rattle.trace_text.specs.RowRanges.{found_place, found_row}
@@ -85,6 +85,7 @@ reported-at (x ∷ ds) (y ∷ rs) (suc j) d r a b = reported-at ds rs j d r a b
 places-at : (v : TraceVersion) (ds : List AxisDef) (rs : List AxisRow) (j : ℕ) (d : AxisDef) (r : AxisRow) → slice_get ds j ≡ Some d → slice_get rs j ≡ Some r → found_place v d r ≡ slice_get (found_places v ds rs) j
 places-at One ds rs j d r a b = refl
 places-at Two ds rs j d r a b = reported-at ds rs j d r a b
+places-at Three ds rs j d r a b = reported-at ds rs j d r a b
 
 found-at : (v : TraceVersion) (ds : List AxisDef) (rs : List AxisRow) (j : ℕ) → IsFoundAt v ds rs (map found_row rs) (slice_get (found_places v ds rs)) j
 found-at v ds rs j d r row a b c =
@@ -92,7 +93,7 @@ found-at v ds rs j d r row a b c =
     record { row = cc p; place = places-at v ds rs j d r a b }
 
 -- the records of an entry as it is found are those of the entry
-pub found-same : (v : TraceVersion) (s : Setup) (x : Entry) → IsEntryRead v s (found_entry v s x) → found_entry_records s (found_entry v s x) ≡ entry_records v s x
+pub found-same : (v : TraceVersion) (s : Setup) (x : Entry) → IsEntryRead v s (found_entry v s x) → found_entry_records v s (found_entry v s x) ≡ entry_records v s x
 unfolding found_entry_records entry_records
 found-same v s (call k i o) h = refl
 found-same v s (cycle n rows grows) h =
@@ -102,7 +103,7 @@ found-same v s (cycle n rows grows) h =
     rw same refl
 found-same v s (end_of task) h = refl
 
-pub records-same : (v : TraceVersion) (s : Setup) (e : FoundEntry) (x : Entry) → IsEntryRead v s e → e ≡ found_entry v s x → entry_records v s x ≡ found_entry_records s e
+pub records-same : (v : TraceVersion) (s : Setup) (e : FoundEntry) (x : Entry) → IsEntryRead v s e → e ≡ found_entry v s x → entry_records v s x ≡ found_entry_records v s e
 records-same v s e x h is =
     let read : IsEntryRead v s (found_entry v s x) = subst (IsEntryRead v s) is h in
     rw is (sym (found-same v s x read))

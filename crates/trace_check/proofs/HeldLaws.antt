@@ -1,4 +1,5 @@
--- The history of a legal trace that was read can be held by version 2.
+-- The history of a legal trace that was read can be held by the version in which it is written
+-- again.
 -- for: traces_tell_their_history, migrated_traces_are_legal
 use Rattle.std.proofs.Common.{◌≡◌, ℕ, List, [], ◌∷◌, length, map, refl, ap, subst, arith}
 use Rattle.std.specs.List.{AllByRecursion, AllZip}
@@ -9,13 +10,16 @@ use Rattle.plc_types.specs.declared.axis.AxisRow.{AxisRow}
 use Rattle.motion_history.specs.Entries.{Entry, call, cycle, end_of}
 use Rattle.motion_history.specs.Setup.{IsSetup, Setup}
 use Rattle.motion_history.specs.declared.refused.TraceVersion.{TraceVersion}
-use Rattle.motion_history.specs.declared.refused.TraceVersion.TheVariants.{Two}
+use Rattle.motion_history.specs.declared.refused.TraceVersion.TheVariants.{One, Two, Three}
 use Rattle.motion_history.specs.Members.{IsGroup, members_of}
 use Rattle.motion_history.specs.declared.config.GroupDef.{GroupDef}
 use Rattle.motion_history.specs.declared.sizes.TheConstants.{MOST_MEMBERS}
 use Rattle.motion_kernel.specs.Counted.{IsCounted, RowsAreCounted}
 use Rattle.motion_kernel.specs.Histories.{IsLegal, IsPast}
 use Rattle.motion_kernel.specs.kept.Machine.{AreWhole}
+use Rattle.trace_text.specs.Trace.{BrakeAlike, CanHold}
+use Rattle.trace_text.proofs.Versions.{version-holds}
+use Rattle.trace_check.specs.Laws.{migrated_version, renewed}
 use Rattle.trace_text.specs.RowRanges.{IsGroupRow, IsRow, found_row}
 use Rattle.trace_text.specs.TraceKept.{IsEntryRead, IsRowRead, IsTraceKept}
 use Rattle.trace_text.specs.TraceState.{TraceState}
@@ -94,15 +98,24 @@ groups-whole axes (g ∷ gs) h is = (count-whole axes g h.0 is.0, groups-whole a
 machine-whole : (s : Setup) → IsMachine s → AreWhole s
 machine-whole s is = groups-whole (length s.axes) s.groups (recursion_from_All (λ (g : GroupDef). length g.axes ≡ MOST_MEMBERS) s.groups is.arrays) is.setup.within.groups
 
+renewed-brakes : (v : TraceVersion) (s : Setup) → renewed v ≡ One → BrakeAlike s
+renewed-brakes One s e = absurd (cc e)
+renewed-brakes Two s e = absurd (cc e)
+renewed-brakes Three s e = absurd (cc e)
+
+-- a machine can be held in the version in which its trace is written again
+pub migrated-holds : (t : TraceState) → CanHold (migrated_version t) t.config
+migrated-holds t = version-holds (renewed t.version) t.config (renewed-brakes t.version t.config)
+
 -- a legal trace that was read
-pub trace-held : Laws → (t : TraceState) (es : List Entry) → IsTraceKept t → IsLegal t.config es → IsTraceOf t es → IsHeld Two t.config es t.drives
+pub trace-held : Laws → (t : TraceState) (es : List Entry) → IsTraceKept t → IsLegal t.config es → IsTraceOf t es → IsHeld (migrated_version t) t.config es t.drives
 trace-held g t es kept legal is =
     let setup = kept.machine.setup in
     let read : AllByRecursion (IsEntryRead t.version t.config) (map (found_entry t.version t.config) es) = subst (AllByRecursion (IsEntryRead t.version t.config)) is.found kept.entries in
     let counted : RowsAreCounted t.config es = g.counted t.config es setup (machine-whole t.config kept.machine) (record { follows = legal.follows }) in
     record {
       machine = kept.machine;
-      version = tt;
+      version = migrated-holds t;
       entries = All-from_recursion (IsWritable t.config) es (entries-held t.version t.config es read counted);
       as_many = kept.as_many;
       drives = kept.drives;

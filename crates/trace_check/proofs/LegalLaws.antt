@@ -77,21 +77,21 @@ room-left v s made e more l h = rw (lt-ltb (length made) s.entries l, cycle-left
 -- the records that are expected of a legal history are those found
 expected-found : (v : TraceVersion) (s : Setup) (m : Machine) (made es : List Entry) → Follows s (cycles_of made) (machine_from s m made) es → length made + length es ≤ s.entries → cycles_of made + cycles_of es ≤ s.cycles →
     AllByRecursion (IsEntryRead v s) (map (found_entry v s) es) →
-    expected_from v s m made (map entry_of (map (found_entry v s) es)) ≡ flat_map (found_entry_records s) (map (found_entry v s) es)
+    expected_from v s m made (map entry_of (map (found_entry v s) es)) ≡ flat_map (found_entry_records v s) (map (found_entry v s) es)
 expected-found v s m made [] f l c kept = refl
 expected-found v s m made (e ∷ es) f l c kept =
     let x = entry_of (found_entry v s e) in
     let is : made_from s m made x ≡ e = made-is v s m made e f.0 in
     let room : has_room s made x ≡ true = room-left v s made e (cycles_of es) (omega (arith, l)) c in
-    let here : expected_of v s m made x ≡ found_entry_records s (found_entry v s e) = room-same v s m made x room ∙ ap (entry_records v s) is ∙ sym (found-same v s e kept.0) in
+    let here : expected_of v s m made x ≡ found_entry_records v s (found_entry v s e) = room-same v s m made x room ∙ ap (entry_records v s) is ∙ sym (found-same v s e kept.0) in
     let count = cycles-more made e in
     let long : length (made ++ e ∷ []) ≡ length made + 1 = length-append made (e ∷ []) in
     let follows : Follows s (cycles_of (made ++ e ∷ [])) (machine_from s m (made ++ e ∷ [])) es =
     rw (count, machine-more s m made e) f.1 in
     let later = expected-found v s m (made ++ e ∷ []) es follows (omega (arith, long, l)) (omega (arith, count, c)) kept.1 in
-    let same : expected_from v s m (with_made_from s m made x) (map entry_of (map (found_entry v s) es)) ≡ flat_map (found_entry_records s) (map (found_entry v s) es) =
+    let same : expected_from v s m (with_made_from s m made x) (map entry_of (map (found_entry v s) es)) ≡ flat_map (found_entry_records v s) (map (found_entry v s) es) =
     ap (λ y. expected_from v s m (made ++ y ∷ []) (map entry_of (map (found_entry v s) es))) is ∙ later in
-    ap (λ a. a ++ expected_from v s m (with_made_from s m made x) (map entry_of (map (found_entry v s) es))) here ∙ ap (λ a. found_entry_records s (found_entry v s e) ++ a) same
+    ap (λ a. a ++ expected_from v s m (with_made_from s m made x) (map entry_of (map (found_entry v s) es))) here ∙ ap (λ a. found_entry_records v s (found_entry v s e) ++ a) same
 
 pub cycles-found : (v : TraceVersion) (s : Setup) (es : List Entry) → cycles_of (map entry_of (map (found_entry v s) es)) ≡ cycles_of es
 cycles-found v s [] = refl
@@ -105,11 +105,11 @@ none-of t m kept es legal is =
     let v = t.version in
     let s = t.config in
     let read : AllByRecursion (IsEntryRead v s) (map (found_entry v s) es) = subst (AllByRecursion (IsEntryRead v s)) is.found kept.entries in
-    let a : expected_from v s m [] (entries_of t) ≡ flat_map (found_entry_records s) t.found =
+    let a : expected_from v s m [] (entries_of t) ≡ flat_map (found_entry_records v s) t.found =
     rw is.found (expected-found v s m [] es legal.follows (omega (arith, legal.entries)) (omega (arith, legal.cycles)) read) in
     let count : cycles_of (entries_of t) ≡ cycles_of es = ap (λ fs. cycles_of (map entry_of fs)) is.found ∙ cycles-found v s es in
     let b : map (with_taken (cycles_of (entries_of t))) t.drives ≡ t.drives = ap (λ n. map (with_taken n) t.drives) count ∙ took-from (cycles_of es) t.drives is.taken in
-    ap (λ x. x ++ drive_records s (map (with_taken (cycles_of (entries_of t))) t.drives)) a ∙ ap (λ ds. flat_map (found_entry_records s) t.found ++ drive_records s ds) b
+    ap (λ x. x ++ drive_records s (map (with_taken (cycles_of (entries_of t))) t.drives)) a ∙ ap (λ ds. flat_map (found_entry_records v s) t.found ++ drive_records s ds) b
 
 -- no record of a legal trace differs
 pub legal-none : (t : TraceState) (m : Machine) → IsTraceKept t → IsLegalTraceFrom m t → difference_from m t ≡ None
@@ -169,9 +169,9 @@ differs-more t m d more h =
     let b : List (List (List ℕ)) = drive_records s t.drives in
     let expected : expected_from v s m [] (entries_of all) ++ a ≡ expected_from v s m [] (entries_of t) ++ (e.0 ++ a) =
     ap (λ es. expected_from v s m [] es ++ a) split ∙ ap (λ x. x ++ a) e.1 ∙ append_assoc (expected_from v s m [] (entries_of t)) e.0 a in
-    let found : flat_map (found_entry_records s) (t.found ++ more) ++ b ≡ flat_map (found_entry_records s) t.found ++ (flat_map (found_entry_records s) more ++ b) =
-    ap (λ x. x ++ b) (flat_map-append (found_entry_records s) t.found more) ∙ append_assoc (flat_map (found_entry_records s) t.found) _ b in
-    ap (λ x. first_difference (first_place t) x (flat_map (found_entry_records s) (t.found ++ more) ++ b)) expected ∙ ap (λ y. first_difference (first_place t) (expected_from v s m [] (entries_of t) ++ (e.0 ++ a)) y) found ∙ h (e.0 ++ a) (flat_map (found_entry_records s) more ++ b)
+    let found : flat_map (found_entry_records v s) (t.found ++ more) ++ b ≡ flat_map (found_entry_records v s) t.found ++ (flat_map (found_entry_records v s) more ++ b) =
+    ap (λ x. x ++ b) (flat_map-append (found_entry_records v s) t.found more) ∙ append_assoc (flat_map (found_entry_records v s) t.found) _ b in
+    ap (λ x. first_difference (first_place t) x (flat_map (found_entry_records v s) (t.found ++ more) ++ b)) expected ∙ ap (λ y. first_difference (first_place t) (expected_from v s m [] (entries_of t) ++ (e.0 ++ a)) y) found ∙ h (e.0 ++ a) (flat_map (found_entry_records v s) more ++ b)
 
 pub differs-held : (whole t : TraceState) (m : Machine) (d : Difference) → IsHeldOf whole t → DiffersAmong t m d → difference_from m whole ≡ Some d
 differs-held whole t m d held h = ap (difference_from m) held.is ∙ differs-more t m d held.more h

@@ -4,7 +4,6 @@ use Rattle.std.proofs.Common.{◌≡◌, ℕ, ◌+◌, List, [], ◌∷◌, map,
 use Rattle.motion_history.specs.Entries.{Entry, call, cycle, cycle_count, end_of}
 use Rattle.motion_history.specs.Setup.{Setup}
 use Rattle.motion_history.specs.declared.refused.TraceVersion.{TraceVersion}
-use Rattle.motion_history.specs.declared.refused.TraceVersion.TheVariants.{Two}
 use Rattle.motion_kernel.specs.cycles.Cycles.{cycled}
 use Rattle.motion_kernel.specs.Histories.{Follows, IsOf, after, inputs_of}
 use Rattle.motion_kernel.specs.Machine.{Machine, machine_at_opening}
@@ -12,7 +11,7 @@ use Rattle.trace_text.specs.ReadBack.{TextsTellTraces, TracesAreReadBack}
 use Rattle.trace_text.specs.RowRanges.{found_row}
 use Rattle.trace_text.specs.TraceState.{TraceState, entry_of}
 use Rattle.trace_text.specs.Writable.{found_entry}
-use Rattle.trace_check.specs.Laws.{MigratedTracesAreLegal, TextsTellHistories, TracesTellHistories}
+use Rattle.trace_check.specs.Laws.{MigratedTracesAreLegal, migrated_version, TextsTellHistories, TracesTellHistories}
 use Rattle.trace_check.proofs.HeldLaws.{Laws, trace-held}
 use Rattle.trace_check.proofs.LegalLaws.{same-inputs}
 
@@ -55,7 +54,7 @@ texts-tell law v c s es others ds ends h k legal other same =
 
 pub migrated : TracesAreReadBack → Laws → MigratedTracesAreLegal
 migrated law g t es kept legal is = record {
-  read = law Two t.command t.config es t.drives (trace-held g t es kept legal is);
+  read = law (migrated_version t) t.command t.config es t.drives (trace-held g t es kept legal is);
   legal = record { history = es; legal = legal; is = record { found = refl; taken = is.taken } };
   same = record { found = refl; taken = is.taken };
 }

@@ -40,20 +40,20 @@ entry-at t n e h = get-map entry_of t.found n ∙ ap (option_map entry_of) h
 
 -- what is left begins with the entry
 pub next-rest : (t : TraceState) (m : Machine) (k : SegmentedState) (count place : ℕ) (e : FoundEntry) (xs ys : List (List (List ℕ))) → IsUnderWay t m k count place → slice_get t.found count ≡ Some e →
-    first_difference (first_place t) (expected_from t.version t.config m [] (entries_of t) ++ xs) (flat_map (found_entry_records t.config) t.found ++ ys) ≡
+    first_difference (first_place t) (expected_from t.version t.config m [] (entries_of t) ++ xs) (flat_map (found_entry_records t.version t.config) t.found ++ ys) ≡
     first_difference place
     (expected_of t.version t.config m k.history (entry_of e) ++ (expected_from t.version t.config m (with_made_from t.config m k.history (entry_of e)) (drop (count + 1) (entries_of t)) ++ xs))
-    (found_entry_records t.config e ++ (flat_map (found_entry_records t.config) (drop (count + 1) t.found) ++ ys))
+    (found_entry_records t.version t.config e ++ (flat_map (found_entry_records t.version t.config) (drop (count + 1) t.found) ++ ys))
 next-rest t m k count place e xs ys u at =
     let a = next-drop (entries_of t) count (entry_of e) (entry-at t count e at) in
     let b = next-drop t.found count e at in
     let v = t.version in
     let s = t.config in
     u.rest xs ys ∙
-    ap (λ l. first_difference place (expected_from v s m k.history l ++ xs) (flat_map (found_entry_records s) (drop count t.found) ++ ys)) a ∙
-    ap (λ l. first_difference place ((expected_of v s m k.history (entry_of e) ++ expected_from v s m (with_made_from s m k.history (entry_of e)) (drop (count + 1) (entries_of t))) ++ xs) (flat_map (found_entry_records s) l ++ ys)) b ∙
-    ap (λ l. first_difference place l ((found_entry_records s e ++ flat_map (found_entry_records s) (drop (count + 1) t.found)) ++ ys)) (append_assoc (expected_of v s m k.history (entry_of e)) _ xs) ∙
-    ap (λ l. first_difference place (expected_of v s m k.history (entry_of e) ++ (expected_from v s m (with_made_from s m k.history (entry_of e)) (drop (count + 1) (entries_of t)) ++ xs)) l) (append_assoc (found_entry_records s e) _ ys)
+    ap (λ l. first_difference place (expected_from v s m k.history l ++ xs) (flat_map (found_entry_records v s) (drop count t.found) ++ ys)) a ∙
+    ap (λ l. first_difference place ((expected_of v s m k.history (entry_of e) ++ expected_from v s m (with_made_from s m k.history (entry_of e)) (drop (count + 1) (entries_of t))) ++ xs) (flat_map (found_entry_records v s) l ++ ys)) b ∙
+    ap (λ l. first_difference place l ((found_entry_records v s e ++ flat_map (found_entry_records v s) (drop (count + 1) t.found)) ++ ys)) (append_assoc (expected_of v s m k.history (entry_of e)) _ xs) ∙
+    ap (λ l. first_difference place (expected_of v s m k.history (entry_of e) ++ (expected_from v s m (with_made_from s m k.history (entry_of e)) (drop (count + 1) (entries_of t)) ++ xs)) l) (append_assoc (found_entry_records v s e) _ ys)
 
 -- one entry more is replayed
 pub goes-on : (t : TraceState) (m : Machine) (k new : SegmentedState) (count place n : ℕ) (e : FoundEntry) → IsUnderWay t m k count place → slice_get t.found count ≡ Some e → IsEntryReplayed t e k.start k new n →
@@ -78,16 +78,16 @@ goes-on t m k new count place n e u at replayed =
       rest = λ xs ys.
           next-rest t m k count place e xs ys u at ∙
           first-past place (place + n) _ _ _ _ r.same (ap (λ j. place + j) r.told) ∙
-          ap (λ h. first_difference (place + n) (expected_from t.version t.config m h (drop (count + 1) (entries_of t)) ++ xs) (flat_map (found_entry_records t.config) (drop (count + 1) t.found) ++ ys)) (sym history);
+          ap (λ h. first_difference (place + n) (expected_from t.version t.config m h (drop (count + 1) (entries_of t)) ++ xs) (flat_map (found_entry_records t.version t.config) (drop (count + 1) t.found) ++ ys)) (sym history);
     }
 
 -- a stop in an entry is the trace's, whatever stands after the entries
 pub stops-here : (t : TraceState) (m : Machine) (k new : SegmentedState) (count place : ℕ) (e : FoundEntry) (s : Stop) → IsUnderWay t m k count place → slice_get t.found count ≡ Some e →
-    StopsAt place (expected_of t.version t.config k.start k.history (entry_of e)) (found_entry_records t.config e) s → EntriesReplay t m new (Err s)
+    StopsAt place (expected_of t.version t.config k.start k.history (entry_of e)) (found_entry_records t.version t.config e) s → EntriesReplay t m new (Err s)
 stops-here t m k new count place e (stop.Differs d) u at h = λ xs ys.
-    let here = subst (λ x. StopsAt place (expected_of t.version t.config x k.history (entry_of e)) (found_entry_records t.config e) (stop.Differs d)) u.start h in
+    let here = subst (λ x. StopsAt place (expected_of t.version t.config x k.history (entry_of e)) (found_entry_records t.version t.config e) (stop.Differs d)) u.start h in
     next-rest t m k count place e xs ys u at ∙
-    first-stop place (expected_of t.version t.config m k.history (entry_of e)) (found_entry_records t.config e) _ _ d here
+    first-stop place (expected_of t.version t.config m k.history (entry_of e)) (found_entry_records t.version t.config e) _ _ d here
 stops-here t m k new count place e stop.OutOfMemory u at h = tt
 
 -- nothing is replayed at first

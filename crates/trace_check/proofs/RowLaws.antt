@@ -7,7 +7,7 @@ use Rattle.plc_types.specs.declared.axis.AxisDef.{AxisDef}
 use Rattle.plc_types.specs.declared.axis.AxisRow.{AxisRow}
 use Rattle.motion_history.specs.Setup.{Setup}
 use Rattle.motion_history.specs.declared.refused.TraceVersion.{TraceVersion}
-use Rattle.motion_history.specs.declared.refused.TraceVersion.TheVariants.{One, Two}
+use Rattle.motion_history.specs.declared.refused.TraceVersion.TheVariants.{One, Two, Three}
 use Rattle.trace_text.specs.Records.{reported_text, row_fields}
 use Rattle.trace_text.specs.RowRanges.{found_place}
 use Rattle.trace_check.specs.FoundRecords.{found_row_fields, place_text}
@@ -46,6 +46,7 @@ place-same : (v : TraceVersion) (s : Setup) (n : ℕ) (places : List ℤ) (d : A
 unfolding reported_text
 place-same One s n places d r at e = rw (← e) refl
 place-same Two s n places d r at e = rw (← e, at) refl
+place-same Three s n places d r at e = rw (← e, at) refl
 
 -- the record of a row that is found so is the one found
 pub row-same : (v : TraceVersion) (s : Setup) (n : ℕ) (places : List ℤ) (d : AxisDef) (r row : AxisRow) → slice_get s.axes n ≡ Some d → IsFoundAs v d r row (slice_get places n) →

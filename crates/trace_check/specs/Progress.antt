@@ -38,17 +38,17 @@ pub record IsUnderWay (t : TraceState) (m : Machine) (k : SegmentedState) (count
   pub rest : (xs ys : List (List (List ℕ))) →
       first_difference (first_place t)
       (expected_from t.version t.config m [] (entries_of t) ++ xs)
-      (flat_map (found_entry_records t.config) t.found ++ ys) ≡
+      (flat_map (found_entry_records t.version t.config) t.found ++ ys) ≡
       first_difference place
       (expected_from t.version t.config m k.history (drop count (entries_of t)) ++ xs)
-      (flat_map (found_entry_records t.config) (drop count t.found) ++ ys)
+      (flat_map (found_entry_records t.version t.config) (drop count t.found) ++ ys)
 
 -- this record of a trace differs first, whatever stands after the entries
 abbrev pub DiffersAmong : TraceState → Machine → Difference → Type 0
 DiffersAmong t m d = (xs ys : List (List (List ℕ))) →
     first_difference (first_place t)
     (expected_from t.version t.config m [] (entries_of t) ++ xs)
-    (flat_map (found_entry_records t.config) t.found ++ ys) ≡ Some d
+    (flat_map (found_entry_records t.version t.config) t.found ++ ys) ≡ Some d
 
 -- all entries were replayed, and the number of the record after them is reported; or the first
 -- record that differs is; or memory ran out

@@ -36,11 +36,11 @@ Compares place expected found (Err s) = StopsAt place expected found s
 pub record IsEntryReplayed (t : TraceState) (e : FoundEntry) (m : Machine) (old new : SegmentedState)
     (count : ℕ) : Type 0 where
   pub same : expected_of t.version t.config m old.history (entry_of e) ≡
-      found_entry_records t.config e
+      found_entry_records t.version t.config e
   pub after : new ≡ record old { history = with_made_from t.config m old.history (entry_of e) }
   pub found : e ≡ found_entry t.version t.config (made_from t.config m old.history (entry_of e))
   pub room : length old.history < t.config.entries
-  pub told : count ≡ length (found_entry_records t.config e)
+  pub told : count ≡ length (found_entry_records t.version t.config e)
   pub few : count ≤ 300
 
 -- an entry was, or the first of its records that differs is reported; or memory ran out
@@ -49,4 +49,4 @@ abbrev pub EntryReplays : TraceState → FoundEntry → ℕ → Machine → Segm
 EntryReplays t e place m old new (Ok count) = IsEntryReplayed t e m old new count
 EntryReplays t e place m old new (Err s) =
     StopsAt place (expected_of t.version t.config m old.history (entry_of e))
-    (found_entry_records t.config e) s
+    (found_entry_records t.version t.config e) s

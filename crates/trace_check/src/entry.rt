@@ -24,7 +24,7 @@ fn no_room(alloc: Global, trace: &Trace, entry: u64, found: &EntryLook<'_>, plac
     requires { IsTraceKept trace.now }
     ensures { (e : FoundEntry) → slice_get trace.now.found entry ≡ Some e →
         told found.now ≡ entry_of e →
-        StopsAt place ([] ∷ []) (found_entry_records trace.now.config e) result }
+        StopsAt place ([] ∷ []) (found_entry_records trace.now.version trace.now.config e) result }
 {
     let Ok(expected) = Record::new(alloc, &[b""; 12]) else {
         return Stop::OutOfMemory;
@@ -51,11 +51,11 @@ fn wrong_at(
     requires before { (e : FoundEntry) → slice_get trace.now.found entry ≡ Some e →
         told found.now ≡ entry_of e →
         take at (entry_records trace.now.version trace.now.config (told expected.now)) ≡
-        take at (found_entry_records trace.now.config e) }
+        take at (found_entry_records trace.now.version trace.now.config e) }
     ensures { (e : FoundEntry) → slice_get trace.now.found entry ≡ Some e →
         told found.now ≡ entry_of e →
         StopsAt place (entry_records trace.now.version trace.now.config (told expected.now))
-        (found_entry_records trace.now.config e) result }
+        (found_entry_records trace.now.version trace.now.config e) result }
 {
     let Ok(expected) = entry_record(alloc, trace.version(), trace.config(), expected, at) else {
         return Stop::OutOfMemory;
@@ -70,7 +70,7 @@ fn wrong_at(
 fn records_in(trace: &Trace, entry: &EntryLook<'_>) -> u64
     ensures count { (e : FoundEntry) → IsEntryRead trace.now.version trace.now.config e →
         told entry.now ≡ entry_of e →
-        result ≡ length (found_entry_records trace.now.config e) }
+        result ≡ length (found_entry_records trace.now.version trace.now.config e) }
     ensures few { result ≤ 300 }
 {
     match entry {

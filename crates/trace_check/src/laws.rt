@@ -15,8 +15,9 @@ pub fn traces_tell_their_history()
     traces_are_read_back();
 }
 
-/// The text of version 2 of the history of a legal trace that was read is read as a legal trace: of
-/// the same machine, the same history and the same drives. Nothing runs.
+/// The text of the history of a legal trace that was read, in version 2, or in version 3 where the
+/// trace is of version 3 or the machine has a kind of block that only version 3 has, is read as a
+/// legal trace: of the same machine, the same history and the same drives. Nothing runs.
 pub fn migrated_traces_are_legal()
     ensures { MigratedTracesAreLegal }
 {

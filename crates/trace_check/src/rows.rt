@@ -16,13 +16,14 @@ use motion_history::{EntryLook, TraceVersion};
 use plc_types::{AxisDef, AxisRow, GroupRow, Inputs, Outputs};
 use trace_text::{Trace, are_same_inputs, reported_place};
 
-// Whether the place that a drive reports in a row is the one found, in version 2.
+// Whether the place that a drive reports in a row is the one found; version 1 has none.
 fn is_reported(version: TraceVersion, axis: &AxisDef, row: &AxisRow, place: Option<i64>) -> bool
     ensures { IsTrue result ↔ (found_place version axis.now row.now ≡ place) }
 {
     match (version, place) {
         (TraceVersion::One, None) => true,
-        (TraceVersion::Two, Some(place)) => reported_place(axis, row) == i128::from(place),
+        (TraceVersion::Two | TraceVersion::Three, Some(place)) => reported_place(axis, row)
+            == i128::from(place),
         _ => false,
     }
 }
@@ -48,7 +49,7 @@ fn is_same_reply(reply: &Outputs, other: &Outputs) -> bool
     *reply == *other
 }
 
-// Whether a row is found so, without its offset, and with this place in version 2.
+// Whether a row is found so, without its offset, and with this place, except in version 1.
 fn is_found_as(
     version: TraceVersion,
     axis: &AxisDef,
@@ -123,7 +124,7 @@ fn wrong_in_cycle(
     ensures before { IfSome result (λ k. (e : FoundEntry) → slice_get trace.now.found entry ≡
         Some e → told found.now ≡ entry_of e →
         take k (entry_records trace.now.version trace.now.config (told expected.now)) ≡
-        take k (found_entry_records trace.now.config e)) }
+        take k (found_entry_records trace.now.version trace.now.config e)) }
     ensures few { IfSome result (λ k. k < 256) }
 {
     let EntryLook::Cycle {
@@ -215,7 +216,7 @@ pub fn wrong_record(
     ensures before { IfSome result (λ k. (e : FoundEntry) → slice_get trace.now.found entry ≡
         Some e → told found.now ≡ entry_of e →
         take k (entry_records trace.now.version trace.now.config (told expected.now)) ≡
-        take k (found_entry_records trace.now.config e)) }
+        take k (found_entry_records trace.now.version trace.now.config e)) }
     ensures few { IfSome result (λ k. k < 256) }
 {
     if is_event_found(expected, found) {

@@ -67,12 +67,15 @@ pub fn found_record(
     requires few { place < 256 }
     ensures { (e : FoundEntry) → slice_get trace.now.found entry ≡ Some e →
         told found.now ≡ entry_of e → IfOk result (λ r.
-        option_map padded (slice_get (found_entry_records trace.now.config e) place) ≡ Some r) }
+        option_map padded
+        (slice_get (found_entry_records trace.now.version trace.now.config e) place) ≡ Some r) }
 {
-    let record = entry_record(alloc, TraceVersion::One, trace.config(), found, place)?;
+    let config = trace.config();
     if place == 0 {
-        return Ok(record);
+        let first = entry_record(alloc, trace.version(), config, found, 0)?;
+        return Ok(first);
     }
+    let record = entry_record(alloc, TraceVersion::One, config, found, place)?;
     match trace.actual_of(entry, (place - 1) as u8) {
         Some(actual) => {
             let mut digits = Buffer::new();

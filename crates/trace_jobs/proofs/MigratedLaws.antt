@@ -10,8 +10,8 @@ use Rattle.job_ends.specs.Plans.{plan_of_reading}
 use Rattle.job_ends.specs.declared.status.Status.{Status}
 use Rattle.job_ends.specs.declared.status.Status.TheVariants as status
 use Rattle.motion_history.specs.declared.refused.TextRefused.{TextRefused}
-use Rattle.motion_history.specs.declared.refused.TraceVersion.TheVariants.{Two}
 use Rattle.outside.specs.Told.{FileMap, HasFile}
+use Rattle.trace_check.specs.Laws.{migrated_version}
 use Rattle.trace_check.specs.Progress.{difference_in}
 use Rattle.trace_check.specs.declared.difference.Difference.{Difference}
 use Rattle.trace_text.specs.reading.Reading.{trace_of}
@@ -42,7 +42,7 @@ trace-migrated name text old new s t None is e verified files file h =
       is = legal.is;
       legal = legal.legal;
       written = subst (λ es. Appends old.told new.told
-          (trace_text Two t.command t.config es t.drives))
+          (trace_text (migrated_version t) t.command t.config es t.drives))
           (sym (history_is t legal.history legal.legal legal.is))
           (whole old new _ s e (ap is_fault h)).1;
       again = told.again (ap tells_legal h) legal.history legal.legal legal.is;

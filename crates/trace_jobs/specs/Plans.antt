@@ -4,7 +4,7 @@ use Rattle.job_ends.specs.Plans.{Plan, plan_of_reading}
 use Rattle.job_ends.specs.declared.status.Status.TheVariants as status
 use Rattle.motion_history.specs.Entries.{Entry}
 use Rattle.motion_history.specs.Setup.{Setup}
-use Rattle.motion_history.specs.declared.refused.TraceVersion.TheVariants.{Two}
+use Rattle.trace_check.specs.Laws.{migrated_version}
 use Rattle.trace_check.specs.Progress.{difference_in}
 use Rattle.trace_check.specs.Replays.{with_made}
 use Rattle.trace_check.specs.declared.difference.Difference.{Difference}
@@ -36,11 +36,11 @@ history_from s made (e ∷ es) = history_from s (with_made s made e) es
 unfoldable pub history_of : TraceState → List Entry
 history_of t = history_from t.config [] (entries_of t)
 
--- the trace of the same history in version 2
+-- the trace of the same history in the version in which it is written again
 abbrev pub migrated : TraceState → List ℕ
-migrated t = trace_text Two t.command t.config (history_of t) t.drives
+migrated t = trace_text (migrated_version t) t.command t.config (history_of t) t.drives
 
--- what a trace that is migrated leads to: the same trace in version 2, or its first record that
+-- what a trace that is migrated leads to: the same trace in that version, or its first record that
 -- differs
 abbrev pub migrated_plan : TraceState → Option Difference → Plan
 migrated_plan t None = record { status = status.Ok; text = migrated t }

@@ -1,10 +1,11 @@
-// A trace is replayed and verified, or written in version 2.
+// A trace is replayed and verified, or written again.
 
 ghost use Rattle.std.specs.Prelude.{◌≡◌, None, false, IfOk};
 ghost use Rattle.job_ends.specs.Ends.{EndsBy};
 ghost use Rattle.trace_jobs.specs.Ends.{EndsByCheck, EndsByMigrate};
 ghost use Rattle.trace_jobs.specs.Verified.{JudgesBy, tells_illegal, tells_legal};
 ghost use Rattle.trace_jobs.specs.Plans.{illegal_plan, verified_plan, plan_of_check, plan_of_migrate};
+ghost use Rattle.trace_check.specs.Laws.{migrated_version};
 ghost use Rattle.trace_text.specs.TraceKept.{IsTraceKept};
 ghost use Rattle.trace_text.specs.Held.{IsHeldOf, ReadsHeld};
 ghost use Rattle.trace_text.specs.TraceState.{TraceState};
@@ -16,7 +17,7 @@ use motion_history::{OutOfMemory, TextFault, TraceVersion};
 use outside::Sink;
 use std::alloc::Global;
 use trace_check::{Difference, Replayed, Trace, Verdict, check, migrated_traces_are_legal, replay};
-use trace_text::{read_within_room, write_trace};
+use trace_text::{read_within_room, trace_version, write_trace};
 
 /// Says whether the trace that a text is is legal. The text is given up before it is verified.
 pub fn check_text<K: Sink>(alloc: Global, name: &str, text: Vec<u8>, out: &mut K) -> Status
@@ -71,8 +72,8 @@ fn check_trace<K: Sink>(alloc: Global, trace: &Trace, out: &mut K) -> Status
     }
 }
 
-/// Writes the trace that a text is in version 2, if it is legal. The text is given up before it is
-/// verified.
+/// Writes the trace that a text is again, if it is legal: in version 2, or in version 3 where it is
+/// of version 3. The text is given up before it is verified.
 pub fn migrate_text<K: Sink>(alloc: Global, name: &str, text: Vec<u8>, out: &mut K) -> Status
     ensures { EndsByMigrate name.now text.items
         (record { count = K.count out.old; told = K.told out.old })
@@ -85,7 +86,19 @@ pub fn migrate_text<K: Sink>(alloc: Global, name: &str, text: Vec<u8>, out: &mut
     }
 }
 
-// Writes a trace in version 2, if it is legal.
+// The version in which a trace is written again: version 2 of versions 1 and 2, and version 3 where
+// the machine has a kind of block that only version 3 has.
+fn version_again(trace: &Trace) -> TraceVersion
+    ensures { result ≡ migrated_version trace.now }
+{
+    let version = match trace.version() {
+        TraceVersion::One | TraceVersion::Two => TraceVersion::Two,
+        TraceVersion::Three => TraceVersion::Three,
+    };
+    trace_version(version, trace.config())
+}
+
+// Writes a trace again, if it is legal.
 fn migrate_trace<K: Sink>(alloc: Global, trace: &Trace, out: &mut K) -> Status
     requires { IsTraceKept trace.now }
     ensures verified { (whole : TraceState) → IsHeldOf whole trace.now →
@@ -101,7 +114,7 @@ fn migrate_trace<K: Sink>(alloc: Global, trace: &Trace, out: &mut K) -> Status
         Ok(Replayed::Legal(kernel)) => {
             let written = write_trace(
                 alloc,
-                TraceVersion::Two,
+                version_again(trace),
                 trace.command(),
                 trace.config(),
                 kernel.history(),

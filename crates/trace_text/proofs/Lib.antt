@@ -6,4 +6,5 @@ pub mod read
 pub mod back
 -- the entries that were found rest on FoundLists, and whether inputs are others on SameInputs
 pub mod FoundLists
+pub mod Versions
 pub mod SameInputs

@@ -4,7 +4,7 @@ use Rattle.plc_types.specs.declared.axis.AxisRow.{AxisRow}
 use Rattle.plc_types.specs.declared.group.GroupRow.{GroupRow}
 
 -- a cycle that is found, or a part of it: its number, its rows, and the places that its drives
--- reported, in version 2 alone
+-- reported, none of them in version 1
 pub record CycleFound : Type 0 where
   pub number : ℕ
   pub axes : List AxisRow

@@ -37,7 +37,7 @@ TextsTellRecords = (v : TraceVersion) (c : Command) (s : Setup) (es others : Lis
     map padded (trace_records v c s es ds) ≡ map padded (trace_records v c s others ds)
 
 -- the records of cycles, of their rows and of what the drives took are read as what was written,
--- each row without its offset, in both versions
+-- each row without its offset, in each version
 pub record AreRowsReadBack : Type 0 where
   pub cycles : (n : ℕ) → 1 ≤ n → n ≤ 2 ^ 32 - 1 →
       cycle_meaning (drop 1 (padded (cycle_fields n))) ≡ Ok n

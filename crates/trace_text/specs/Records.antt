@@ -1,5 +1,5 @@
 -- The records of a trace, field by field. This project's profile.
-use Rattle.std.specs.Prelude.{ℕ, ℤ, ◌-◌, Bool, if◌then◌else◌, Option, Some, None, List, [], ◌∷◌, ◌++◌, codes, decimal, length, map, replicate, slice_get, take}
+use Rattle.std.specs.Prelude.{ℕ, ℤ, pos, ◌-◌, Bool, false, if◌then◌else◌, Option, Some, None, List, [], ◌∷◌, ◌++◌, codes, decimal, length, map, replicate, slice_get, take}
 use Rattle.std.specs.Fmt.{signed_decimal}
 use Rattle.std.specs.List.{join_with_byte}
 use Rattle.std.specs.Option.{option_map}
@@ -8,7 +8,8 @@ use Rattle.plc_types.specs.declared.axis.AxisDef.{AxisDef}
 use Rattle.plc_types.specs.declared.axis.AxisRow.{AxisRow}
 use Rattle.plc_types.specs.Kinds.{acts_on_group}
 use Rattle.plc_types.specs.declared.kind.BlockKind.{BlockKind}
-use Rattle.plc_types.specs.declared.kind.BlockKind.TheVariants.{GearIn, CamIn}
+use Rattle.plc_types.specs.declared.kind.BlockKind.TheVariants.{MoveAbsolute, GearIn, CamIn}
+use Rattle.plc_types.specs.declared.kind.BufferMode.{BufferMode}
 use Rattle.csv.specs.Writing.{row_text, default_writer}
 use Rattle.plc_types.specs.Inputs.{takes}
 use Rattle.plc_types.specs.KindNames.{kind_name, mode_name}
@@ -25,11 +26,11 @@ use Rattle.motion_history.specs.Setup.{Setup}
 use Rattle.motion_history.specs.declared.config.BlockDef.{BlockDef}
 use Rattle.motion_history.specs.declared.config.GroupDef.{GroupDef}
 use Rattle.motion_history.specs.declared.refused.TraceVersion.{TraceVersion}
-use Rattle.motion_history.specs.declared.refused.TraceVersion.TheVariants.{One, Two}
+use Rattle.motion_history.specs.declared.refused.TraceVersion.TheVariants.{One, Two, Three}
 use Rattle.trace_columns.specs.Fields.{axis_state_text, drive_state_text, flag_text, group_state_text, hex_text, outputs_text}
 use Rattle.trace_text.specs.declared.command.Command.{Command}
 use Rattle.trace_text.specs.declared.drive_end.DriveEndRow.{DriveEndRow}
-use Rattle.trace_text.specs.Words.{command_text, version_text}
+use Rattle.trace_text.specs.Words.{command_text, shortest, version_text}
 
 -- a record has twelve fields; those that it does not use are empty
 abbrev pub padded : List (List ℕ) → List (List ℕ)
@@ -62,17 +63,22 @@ abbrev pub trace_fields : TraceVersion → Command → Setup → List (List ℕ)
 trace_fields v c s =
     codes "trace" ∷ version_text v ∷ command_text c ∷ decimal s.cycles ∷ decimal s.entries ∷ []
 
--- an axis: its name, its limits, its increment, its start, and whether it opens ready. Version 1
--- has no field for the braking limit
+-- an axis: its name, its limits, its increment, its start, and whether it opens ready
+abbrev pub braking_fields : AxisDef → List (List ℕ)
+braking_fields d =
+    codes "axis" ∷ d.name ∷ signed_decimal d.limits.lo ∷ signed_decimal d.limits.hi ∷
+    signed_decimal d.limits.vmax ∷ signed_decimal d.limits.amax ∷ signed_decimal d.limits.dmax ∷
+    signed_decimal d.inc ∷ signed_decimal d.start ∷ flag_text d.ready ∷ []
+
+-- version 1 has no field for the braking limit; version 3 has two more, for the jerk limit and for
+-- whether the axis is modulo, and no axis has either
 abbrev pub axis_fields : TraceVersion → AxisDef → List (List ℕ)
 axis_fields One d =
     codes "axis" ∷ d.name ∷ signed_decimal d.limits.lo ∷ signed_decimal d.limits.hi ∷
     signed_decimal d.limits.vmax ∷ signed_decimal d.limits.amax ∷
     signed_decimal d.inc ∷ signed_decimal d.start ∷ flag_text d.ready ∷ []
-axis_fields Two d =
-    codes "axis" ∷ d.name ∷ signed_decimal d.limits.lo ∷ signed_decimal d.limits.hi ∷
-    signed_decimal d.limits.vmax ∷ signed_decimal d.limits.amax ∷ signed_decimal d.limits.dmax ∷
-    signed_decimal d.inc ∷ signed_decimal d.start ∷ flag_text d.ready ∷ []
+axis_fields Two d = braking_fields d
+axis_fields Three d = braking_fields d ++ (signed_decimal (pos 0) ∷ flag_text false ∷ [])
 
 -- the names of the axes of a group, joined by semicolons
 unfoldable pub members_text : Setup → GroupDef → List ℕ
@@ -126,22 +132,28 @@ follow_text s GearIn i =
 follow_text s CamIn i = axis_name s i.master ++ (58 ∷ decimal i.table)
 follow_text s _ i = []
 
+-- the buffer mode of a kind; in version 3 an absolute move has its direction after a colon
+unfoldable pub mode_text : TraceVersion → BlockKind → BufferMode → List ℕ
+mode_text Three MoveAbsolute m = mode_name m ++ (58 ∷ shortest)
+mode_text v k m = mode_name m
+
 -- a call of a block: its inputs that are taken, its outputs and the ErrorID
-abbrev pub block_call_fields : Setup → BlockDef → Inputs → Outputs → List (List ℕ)
-block_call_fields s b i o =
+abbrev pub block_call_fields : TraceVersion → Setup → BlockDef → Inputs → Outputs → List (List ℕ)
+block_call_fields v s b i o =
     codes "call" ∷ b.name ∷ flag_text i.execute ∷ positions_text s b i.positions ∷
     number_text b.kind Velocity i.velocity ∷ number_text b.kind Acceleration i.acceleration ∷
     number_text b.kind Deceleration i.deceleration ∷ number_text b.kind Jerk i.jerk ∷
-    taken_text (takes b.kind Mode) (mode_name i.mode) ∷ follow_text s b.kind i ∷
+    taken_text (takes b.kind Mode) (mode_text v b.kind i.mode) ∷ follow_text s b.kind i ∷
     outputs_text o ∷ decimal o.error_id ∷ []
 
 -- a call of the block of a number. A history has none of a block that isn't there
-unfoldable pub call_fields_of : Setup → Option BlockDef → Inputs → Outputs → List (List ℕ)
-call_fields_of s None i o = codes "call" ∷ []
-call_fields_of s (Some b) i o = block_call_fields s b i o
+unfoldable pub call_fields_of : TraceVersion → Setup → Option BlockDef → Inputs → Outputs →
+    List (List ℕ)
+call_fields_of v s None i o = codes "call" ∷ []
+call_fields_of v s (Some b) i o = block_call_fields v s b i o
 
-abbrev pub call_fields : Setup → ℕ → Inputs → Outputs → List (List ℕ)
-call_fields s k i o = call_fields_of s (slice_get s.blocks k) i o
+abbrev pub call_fields : TraceVersion → Setup → ℕ → Inputs → Outputs → List (List ℕ)
+call_fields v s k i o = call_fields_of v s (slice_get s.blocks k) i o
 
 -- a cycle: its number
 abbrev pub cycle_fields : ℕ → List (List ℕ)
@@ -151,10 +163,10 @@ cycle_fields n = codes "cycle" ∷ decimal n ∷ []
 abbrev pub reported_place : AxisDef → AxisRow → ℤ
 reported_place d r = place_of d.limits.lo r.input.actual r.offset d.inc
 
--- that place, in version 2 alone
+-- that place; version 1 has no field for it
 unfoldable pub reported_text : TraceVersion → Setup → ℕ → AxisRow → List ℕ
 reported_text One s n r = []
-reported_text Two s n r =
+reported_text v s n r =
     text_or_none (option_map (λ d. signed_decimal (reported_place d r)) (slice_get s.axes n))
 
 -- a row: the axis, what its drive answered, its state, error, whether it is driven, its setpoint,

@@ -6,7 +6,7 @@ use Rattle.plc_types.specs.declared.axis.AxisDef.{AxisDef}
 use Rattle.plc_types.specs.declared.axis.AxisRow.{AxisRow}
 use Rattle.plc_types.specs.declared.group.GroupRow.{GroupRow}
 use Rattle.motion_history.specs.declared.refused.TraceVersion.{TraceVersion}
-use Rattle.motion_history.specs.declared.refused.TraceVersion.TheVariants.{One, Two}
+use Rattle.motion_history.specs.declared.refused.TraceVersion.TheVariants.{One}
 use Rattle.trace_text.specs.Records.{reported_place}
 use Rattle.trace_text.specs.declared.drive_end.DriveEndRow.{DriveEndRow}
 
@@ -39,10 +39,10 @@ pub record IsDriveEnd (d : DriveEndRow) : Type 0 where
 abbrev pub found_row : AxisRow → AxisRow
 found_row r = record r { offset = pos 0 }
 
--- the place that is found with a row, in version 2 alone
+-- the place that is found with a row; none in version 1
 abbrev pub found_place : TraceVersion → AxisDef → AxisRow → Option ℤ
 found_place One d r = None
-found_place Two d r = Some (reported_place d r)
+found_place v d r = Some (reported_place d r)
 
 -- the place that a drive reported has 64 bits
 abbrev pub IsReported : AxisDef → AxisRow → Type 0

@@ -1,11 +1,14 @@
 -- The records and the text of a trace. This project's profile.
-use Rattle.std.specs.Prelude.{◌≡◌, ℕ, suc, List, [], ◌∷◌, ◌++◌, All, map}
-use Rattle.std.specs.List.{flat_map}
+use Rattle.std.specs.Prelude.{◌≡◌, ℕ, suc, nat_le, Bool, true, if◌then◌else◌, List, [], ◌∷◌, ◌++◌, All, map}
+use Rattle.std.specs.List.{flat_map, list_all}
+use Rattle.plc_types.specs.KindNames.{first_version}
 use Rattle.plc_types.specs.declared.axis.AxisDef.{AxisDef}
 use Rattle.motion_history.specs.Entries.{Entry, call, cycle, end_of}
 use Rattle.motion_history.specs.Setup.{Setup}
+use Rattle.motion_history.specs.Versions.{number_of}
+use Rattle.motion_history.specs.declared.config.BlockDef.{BlockDef}
 use Rattle.motion_history.specs.declared.refused.TraceVersion.{TraceVersion}
-use Rattle.motion_history.specs.declared.refused.TraceVersion.TheVariants.{One, Two}
+use Rattle.motion_history.specs.declared.refused.TraceVersion.TheVariants.{One, Two, Three}
 use Rattle.trace_text.specs.declared.command.Command.{Command}
 use Rattle.trace_text.specs.declared.drive_end.DriveEndRow.{DriveEndRow}
 use Rattle.trace_text.specs.Records.{record_text, header_fields, trace_fields, axis_fields, group_fields, table_fields, task_fields, block_fields, call_fields, cycle_fields, row_fields, grow_fields, end_fields, drive_fields}
@@ -27,7 +30,7 @@ machine_records v c s = header_fields ∷ trace_fields v c s ∷ item_records v 
 
 -- an entry: a call, a cycle with a row for each axis and each group, or the end of a task
 unfoldable pub entry_records : TraceVersion → Setup → Entry → List (List (List ℕ))
-entry_records v s (call k i o) = call_fields s k i o ∷ []
+entry_records v s (call k i o) = call_fields v s k i o ∷ []
 entry_records v s (cycle n rows groups) =
     cycle_fields n ∷ (numbered (row_fields v s) 0 rows ++ numbered (grow_fields s) 0 groups)
 entry_records v s (end_of task) = end_fields s task ∷ []
@@ -50,7 +53,28 @@ text_of records = flat_map record_text records
 unfoldable pub trace_text : TraceVersion → Command → Setup → List Entry → List DriveEndRow → List ℕ
 trace_text v c s es ds = text_of (trace_records v c s es ds)
 
--- a version can hold a machine: in version 1 each axis brakes as hard as it speeds up
-abbrev pub CanHold : TraceVersion → Setup → Type 0
-CanHold One s = All (λ (d : AxisDef). d.limits.dmax ≡ d.limits.amax) s.axes
-CanHold Two s = Unit {0}
+-- whether a version has the kind of a block, and whether it has that of each
+abbrev pub has_kind : TraceVersion → BlockDef → Bool
+has_kind v b = nat_le (first_version b.kind) (number_of v)
+
+unfoldable pub has_kinds : TraceVersion → List BlockDef → Bool
+has_kinds v blocks = list_all (has_kind v) blocks
+
+-- each axis brakes as hard as it speeds up
+abbrev pub BrakeAlike : Setup → Type 0
+BrakeAlike s = All (λ (d : AxisDef). d.limits.dmax ≡ d.limits.amax) s.axes
+
+-- a version can hold a machine: in version 1 each axis brakes as hard as it speeds up, and the
+-- version has the kind of each block
+pub record CanHold (v : TraceVersion) (s : Setup) : Type 0 where
+  pub braking : v ≡ One → BrakeAlike s
+  pub kinds : has_kinds v s.blocks ≡ true
+
+-- the version in which a machine's trace is written: this one, or version 3 where this one hasn't
+-- the machine's kinds
+unfoldable pub trace_version : TraceVersion → Setup → TraceVersion
+trace_version v s = if has_kinds v s.blocks then v else Three
+
+-- the version of the trace of a run
+abbrev pub run_version : Setup → TraceVersion
+run_version s = trace_version Two s

@@ -5,7 +5,7 @@ use Rattle.std.proofs.Common.{FitsSigned, w64}
 use Rattle.plc_types.specs.declared.axis.AxisRow.{AxisRow}
 use Rattle.motion_history.specs.Setup.{Setup}
 use Rattle.motion_history.specs.declared.refused.TraceVersion.{TraceVersion}
-use Rattle.motion_history.specs.declared.refused.TraceVersion.TheVariants.{One, Two}
+use Rattle.motion_history.specs.declared.refused.TraceVersion.TheVariants.{One}
 use Rattle.trace_text.specs.Found.{CycleFound}
 use Rattle.trace_text.specs.RowRanges.{IsDriveEnd, IsGroupRow, IsRow}
 use Rattle.trace_text.specs.TraceState.{TraceState}
@@ -13,10 +13,10 @@ use Rattle.trace_text.specs.Writable.{IsMachine, IsWritableCall}
 use Rattle.trace_text.specs.declared.found.FoundEntry.{FoundEntry}
 use Rattle.trace_text.specs.declared.found.FoundEntry.TheVariants as found
 
--- how many places stand with this many rows: one with each, in version 2 alone
+-- how many places stand with this many rows: one with each, and none in version 1
 abbrev pub places_with : TraceVersion → ℕ → ℕ
 places_with One rows = 0
-places_with Two rows = rows
+places_with v rows = rows
 
 -- a row as it is read: in the ranges of its columns, and without an offset
 pub record IsRowRead (r : AxisRow) : Type 0 where

@@ -1,7 +1,7 @@
 -- The words of a trace that no other crate has. This project's profile.
 use Rattle.std.specs.Prelude.{ℕ, List, codes}
 use Rattle.motion_history.specs.declared.refused.TraceVersion.{TraceVersion}
-use Rattle.motion_history.specs.declared.refused.TraceVersion.TheVariants.{One, Two}
+use Rattle.motion_history.specs.declared.refused.TraceVersion.TheVariants.{One, Two, Three}
 use Rattle.trace_text.specs.declared.command.Command.{Command}
 use Rattle.trace_text.specs.declared.command.Command.TheVariants as command
 
@@ -9,6 +9,12 @@ use Rattle.trace_text.specs.declared.command.Command.TheVariants as command
 unfoldable pub version_text : TraceVersion → List ℕ
 version_text One = codes "1"
 version_text Two = codes "2"
+version_text Three = codes "3"
+
+-- the direction of an absolute move, in version 3. PLCopen Motion Control Part 1, the input
+-- Direction
+unfoldable pub shortest : List ℕ
+shortest = codes "shortest"
 
 -- who made a trace
 unfoldable pub command_text : Command → List ℕ

@@ -12,7 +12,7 @@ use Rattle.motion_history.specs.Entries.{Entry, call, cycle, end_of}
 use Rattle.motion_history.specs.Setup.{IsSetup, Setup}
 use Rattle.motion_history.specs.declared.config.GroupDef.{GroupDef}
 use Rattle.motion_history.specs.declared.refused.TraceVersion.{TraceVersion}
-use Rattle.motion_history.specs.declared.refused.TraceVersion.TheVariants.{One, Two}
+use Rattle.motion_history.specs.declared.refused.TraceVersion.TheVariants.{One}
 use Rattle.motion_history.specs.declared.sizes.TheConstants.{MOST_MEMBERS}
 use Rattle.trace_text.specs.Records.{reported_place}
 use Rattle.trace_text.specs.RowRanges.{IsDriveEnd, IsGroupRow, IsReported, IsRow, found_row}
@@ -75,7 +75,7 @@ reported_places (d ∷ ds) (r ∷ rs) = reported_place d r ∷ reported_places d
 -- those that are found in a trace: none in version 1
 abbrev pub found_places : TraceVersion → List AxisDef → List AxisRow → List ℤ
 found_places One axes rows = []
-found_places Two axes rows = reported_places axes rows
+found_places v axes rows = reported_places axes rows
 
 -- an entry as it is found: its rows are without their offsets
 abbrev pub found_entry : TraceVersion → Setup → Entry → FoundEntry

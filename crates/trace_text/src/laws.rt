@@ -28,8 +28,8 @@ pub fn records_are_read_back()
 }
 
 /// What is written of a cycle's number, of a row and of what a drive took is read as it: for every
-/// row of the ranges of its columns, without its offset, with the place that its drive reported in
-/// version 2. Nothing runs.
+/// row of the ranges of its columns, without its offset, and except in version 1 with the place
+/// that its drive reported. Nothing runs.
 pub fn rows_are_read_back()
     ensures { AreRowsReadBack }
 {

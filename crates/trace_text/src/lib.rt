@@ -15,6 +15,7 @@ mod reading;
 mod records;
 mod same;
 mod trace;
+mod version;
 mod writing;
 
 pub use command::Command;
@@ -26,6 +27,7 @@ pub use motion_history::{Config, History, OutOfMemory, TextFault, TextRefused, T
 pub use reading::read::{read_trace, read_within_room};
 pub use same::are_same_inputs;
 pub use trace::Trace;
+pub use version::trace_version;
 pub use writing::cycle_rows::reported_place;
 pub use writing::pieces::entry_piece;
 pub use writing::write::{TraceFault, write_trace};

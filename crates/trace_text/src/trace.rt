@@ -47,7 +47,7 @@ impl Model for Trace {
 }
 
 impl Trace {
-    /// Its version, 1 or 2.
+    /// Its version, 1 to 3.
     pub fn version(&self) -> TraceVersion
         ensures { result ≡ self.now.version }
     {

@@ -9,7 +9,7 @@ use crate::halts::halt_step;
 use command_pool::Rates;
 use kin_core::steps_fall_toward_zero;
 use motion_numbers::{MOST_STEP, MOST_WAY, ramp_sum, searches_find_the_greatest, ways_to_rest};
-use ramp_root::{Steps, reach};
+use ramp_root::{Counter, reach};
 use std::marker::Brand;
 use std::sync::ledger::{Blank, Ledger};
 
@@ -63,7 +63,7 @@ fn plan_move_by<L: Ledger>(distance: i64, old: i64, rates: &Rates, blank: Blank)
     ensures follows { (result.follows ≡ true) ↔ HasMoveStep rates.now distance old }
     ensures small { IsStep result.step }
 {
-    let mut steps = Steps::<L>::open(blank);
+    let mut steps = Counter::<L>::open(blank);
     plan_move_counted(distance, old, rates, &mut steps)
 }
 
@@ -72,7 +72,7 @@ pub fn move_step_counted<L: Ledger>(
     distance: i64,
     old: i64,
     rates: &Rates,
-    steps: &mut Steps<L>,
+    steps: &mut Counter<L>,
 ) -> i64
     requires rates { AreRates rates.now }
     requires distance { IsWay distance }
@@ -89,7 +89,7 @@ fn plan_move_counted<L: Ledger>(
     distance: i64,
     old: i64,
     rates: &Rates,
-    steps: &mut Steps<L>,
+    steps: &mut Counter<L>,
 ) -> PlannedStep
     requires rates { AreRates rates.now }
     requires distance { IsWay distance }
@@ -128,7 +128,7 @@ fn turned(planned: PlannedStep) -> PlannedStep
 
 // The step toward a target ahead. While the axis speeds up or cruises the first test decides, and
 // while it brakes onto the target the second.
-fn step_ahead<L: Ledger>(way: u64, speed: u64, rates: &Rates, steps: &mut Steps<L>) -> PlannedStep
+fn step_ahead<L: Ledger>(way: u64, speed: u64, rates: &Rates, steps: &mut Counter<L>) -> PlannedStep
     requires rates { AreRates rates.now }
     requires speed { speed ≤ MOST_STEP }
     requires way { way ≤ MOST_WAY }
@@ -180,7 +180,7 @@ fn step_between<L: Ledger>(
     slowest: u64,
     way: u64,
     d: u64,
-    steps: &mut Steps<L>,
+    steps: &mut Counter<L>,
 ) -> u64
     requires fall { 1 ≤ d }
     requires most_fall { d ≤ MOST_STEP }

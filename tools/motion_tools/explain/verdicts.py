@@ -106,6 +106,6 @@ def line_of(file: str, record: int) -> int:
 
 def names_of(record: list[str]) -> list[str]:
     """The names of a record's fields."""
-    forms = {**FORMS, **FORMS_OF_VERSION[2]}
+    forms = {**FORMS, **FORMS_OF_VERSION[3]}
     names = ["kind", *(name for name, _ in forms.get(record[0], []))]
     return names + [f"field {place + 1}" for place in range(len(names), 12)]

@@ -2,14 +2,17 @@
 -- for: axis_fates_are_told, axis_changes_are_made
 use Rattle.std.specs.Prelude.{◌≡◌, refl, ℕ, Bool, true, false, Option, Some, None, List, [], ◌∷◌, ℤ, if◌then◌else◌}
 use Rattle.std.proofs.Common.{subst, ◌∙◌, ap, sym, arith}
-use Rattle.axis_core.specs.Calls.{axis_without_owner, core_after_admission, core_after_command, core_after_disabling, core_after_joining, core_after_leaving, core_after_power, core_after_verdict, core_with_queued, queue_in}
+use Rattle.axis_core.specs.Calls.{axis_without_owner, core_after_command, core_after_disabling, core_after_joining, core_after_leaving, core_after_power, core_after_verdict, core_entered_in, core_with_queued, queue_in}
 use Rattle.axis_core.specs.Cores.{Core, axis_under, axis_under_by, core_after_error}
-use Rattle.axis_core.specs.Owners.{core_without_owner, owner_brought, owner_brought_by}
+use Rattle.axis_core.specs.Owners.{core_without_owner, owner_brought, owner_brought_in}
+use Rattle.axis_core.specs.Profiles.{profile_of}
 use Rattle.axis_core.specs.Refusals.{Asked, refusal_of}
 use Rattle.axis_core.specs.blocks.Halts.{hold_by}
 use Rattle.axis_core.specs.blocks.Moves.{known_target_of, with_target}
 use Rattle.axis_core.specs.blocks.Power.{axis_with_wish}
 use Rattle.axis_core.specs.blocks.Path.{axis_on_path}
+use Rattle.axis_core.specs.declared.profile.Entry.{Entry}
+use Rattle.axis_core.specs.declared.profile.Entry.TheVariants.{Joins, Leaves, Awaits}
 use Rattle.axis_core.specs.declared.reason.Reason.{Reason}
 use Rattle.axis_state.specs.States.{is_error_stop}
 use Rattle.buffer_modes.specs.Queue.{is_active_at_once}
@@ -21,19 +24,19 @@ use Rattle.command_pool.specs.Waiting.{last_of}
 use Rattle.plc_types.specs.declared.kind.BlockKind.{BlockKind}
 use Rattle.command_pool.specs.declared.wanted.Wanted.{Wanted}
 use Rattle.command_changes.specs.Failing.{failing}
-use Rattle.command_changes.specs.Axis.{admitted_changes, asked_changes, command_state_of, command_changes, is_stop, joined_changes, power_changes}
+use Rattle.command_changes.specs.Axis.{asked_changes, command_state_of, command_changes, entered_changes, is_stop, joined_changes, power_changes}
 use Rattle.command_changes.proofs.Choices.{either, by_if}
 use Rattle.axis_core.specs.declared.axis.Axis.{Axis}
 use Rattle.buffer_modes.specs.Owners.{owner_count, IsSame}
 use Rattle.command_core.specs.Calls.{IsCall}
 use Rattle.buffer_modes.proofs.Owners.{nobody}
-use Rattle.axis_core.specs.Fates.{admitted_fate, asked_fate, command_fate, joined_fate, power_fate}
+use Rattle.axis_core.specs.Fates.{asked_fate, command_fate, entered_fate, joined_fate, power_fate}
 use Rattle.axis_core.specs.blocks.Gear.{velocity_command}
 use Rattle.buffer_modes.specs.Fates.{Fate, goes_on}
 use Rattle.buffer_modes.specs.Laws.{AreTakenAway}
 use Rattle.axis_core.specs.AxisKept.{IsCoreKept}
 use Rattle.axis_core.specs.Demands.{IsMade, asked_in}
-use Rattle.axis_core.specs.Kept.{MayAdmit}
+use Rattle.axis_core.specs.Kept.{MayEnter}
 use Rattle.axis_core.proofs.MayAdmit.{may-admit}
 use Rattle.command_core.specs.Changes as change
 use Rattle.command_core.specs.CommandState as command_state
@@ -69,9 +72,8 @@ left_called w c d made nobodys = record {
   fated = single (replaced finish.Aborted (Some w) []) (holds false ∷ []) (command_state_of c) ((λ d. refl), tt);
 }
 
-with_brings : (x : BlockKind) (t : Option ℤ) (w : Wanted) → owner_brought_by x (with_target t w) ≡ owner_brought_by x w
-with_brings kind.GearOut t w = refl
-with_brings kind.CamOut t w = refl
+with_brings : (x : Entry) (t : Option ℤ) (w : Wanted) → owner_brought_in x (with_target t w) ≡ owner_brought_in x w
+with_brings Leaves t w = refl
 with_brings _ t w = refl
 
 module _ (order : AreInOrder) where
@@ -91,23 +93,23 @@ module _ (order : AreInOrder) where
       (λ h. record { makes = entered_makes w c h; brings = λ k. omega arith; call = tt; fated = single (joins w) (holds (is_stop w.kind) ∷ []) s ((λ d. refl), tt) })
       (λ h. record { makes = refl; brings = λ k. omega arith; call = tt; fated = single (joins w) [] s tt })
 
-  admitted_called : (k : BlockKind) (w : Wanted) (c : Core) → Calls c (owner_brought_by k w) (admitted_fate k w c) (admitted_changes k w c) (core_after_admission k w c)
+  entered_called : (x : Entry) (w : Wanted) (c : Core) → Calls c (owner_brought_in x w) (entered_fate x w c) (entered_changes x w c) (core_entered_in x w c)
   unfolding axis_under_by
-  admitted_called kind.Reset w c =
+  entered_called Awaits w c =
       record { makes = by c.axis.reset refl; brings = λ k. omega arith; call = tt; fated = single (awaits w.owner) [] (command_state_of c) tt }
     where
-      by : (o : Option PendingReset) → c.axis.reset ≡ o → Makes c (admitted_changes kind.Reset w c) (core_after_admission kind.Reset w c)
+      by : (o : Option PendingReset) → c.axis.reset ≡ o → Makes c (entered_changes Awaits w c) (core_entered_in Awaits w c)
       by None e = rw e refl
       by (Some p) e = rw e refl
-  admitted_called kind.GearOut w c = left_called (velocity_command w c.axis) c (core_after_leaving w c) refl refl
-  admitted_called kind.CamOut w c = left_called (velocity_command w c.axis) c (core_after_leaving w c) refl refl
-  admitted_called _ w c = joined_called w c
+  entered_called Leaves w c = left_called (velocity_command w c.axis) c (core_after_leaving w c) refl refl
+  entered_called Joins w c = joined_called w c
 
   asked_called : (r : Option Reason) (w : Wanted) (c : Core) → Calls c (owner_brought r w) (asked_fate r w c) (asked_changes r w c) (core_after_verdict r w c)
   asked_called None w c =
       let target = known_target_of c.axis (last_of c.waiting) w in
       let v = with_target target w in
-      subst (λ o. Calls c o (admitted_fate w.kind v c) (admitted_changes w.kind v c) (core_after_admission w.kind v c)) (with_brings w.kind target w) (admitted_called w.kind v c)
+      let x = (profile_of w.kind).entry in
+      subst (λ o. Calls c o (entered_fate x v c) (entered_changes x v c) (core_entered_in x v c)) (with_brings x target w) (entered_called x v c)
   asked_called (Some reason) w c = record { makes = refl; brings = λ k. let z = nobody k in omega arith; call = tt; fated = record { ends = refl; begins = refl } }
 
   pub command_called : (q : Asked) (c : Core) → Calls c (owner_brought (refusal_of q) q.wanted) (command_fate q c) (command_changes q c) (core_after_command q c)
@@ -152,11 +154,10 @@ unfolding axis_on_path
 path_fated on a = refl
 
 -- a command finds its place
-admitted_fits : (k : BlockKind) (w : Wanted) (c : Core) → MayAdmit k w c → AllFit (admitted_changes k w c) (command_state_of c)
-admitted_fits kind.Reset w c m = (tt, tt)
-admitted_fits kind.GearOut w c m = (omega arith, (tt, tt))
-admitted_fits kind.CamOut w c m = (omega arith, (tt, tt))
-admitted_fits _ w c m =
+entered_fits : (x : Entry) (w : Wanted) (c : Core) → MayEnter x w c → AllFit (entered_changes x w c) (command_state_of c)
+entered_fits Awaits w c m = (tt, tt)
+entered_fits Leaves w c m = (omega arith, (tt, tt))
+entered_fits Joins w c m =
     by_if (λ (xs : List Change). AllFit xs (command_state_of c)) (is_active_at_once (queue_in c) w) _ _ (λ h. (m.place, (tt, tt))) (λ h. (m.place, tt))
 
 pub command_fits : (c : Core) (number : ℕ) (w : Wanted) (jerk : ℤ) (held : Bool) (tables : ℕ) → IsCoreKept c → IsMade w →
@@ -165,6 +166,6 @@ unfolding command_changes
 command_fits c number w jerk held tables k m =
     elim (refusal_of (asked_in c number w jerk held tables)) as
     (λ r. refusal_of (asked_in c number w jerk held tables) ≡ r → AllFit (asked_changes r w c) (command_state_of c)) [
-      | None ↦ λ h. admitted_fits w.kind (with_target (known_target_of c.axis (last_of c.waiting) w) w) c (may-admit c number w jerk held tables k m h)
+      | None ↦ λ h. entered_fits (profile_of w.kind).entry (with_target (known_target_of c.axis (last_of c.waiting) w) w) c (may-admit c number w jerk held tables k m h)
       | Some r ↦ λ h. tt
     ] refl

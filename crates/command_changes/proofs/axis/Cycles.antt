@@ -3,15 +3,18 @@
 use Rattle.std.specs.Prelude.{◌≡◌, refl, ℕ, Bool, true, false, ◌&&◌, nat_eq, ℤ, ◌+ℤ◌, Option, Some, None, Result, Ok, Err, List, [], ◌∷◌, ◌++◌, slice_get, if◌then◌else◌, ◌≢◌}
 use Rattle.std.proofs.Common.{◌∙◌, ap, sym, subst}
 use Rattle.std.proofs.lemmas.List.{append-nil}
-use Rattle.axis_core.specs.Cores.{Core, axis_under, axis_under_by, core_after_end, core_after_ending, core_after_error, core_after_take_over, core_taken_by}
-use Rattle.axis_core.specs.Cycles.{Advance, advance_by_command, advance_by_progress, advance_in_cycle, advance_without_error, axis_after_progress, core_after_advance, core_after_cycle, core_after_going_on, core_after_reset, core_after_step, progress_in_cycle}
+use Rattle.axis_core.specs.Cores.{Core, axis_under, axis_under_by, core_after_end, core_after_ending, core_after_error, core_after_take_over, core_taken_in}
+use Rattle.axis_core.specs.Cycles.{Advance, advance_by_command, advance_by_progress, advance_in_cycle, advance_without_error, core_after_advance, core_after_cycle, core_after_going_on, core_after_reset, core_after_step, progress_in_cycle}
 use Rattle.axis_core.specs.Drives.{answer_error_of, axis_at_drive, is_driven}
+use Rattle.axis_core.specs.Profiles.{profile_of}
 use Rattle.axis_core.specs.blocks.Halts.{axis_after_stop, leaves_stopping}
 use Rattle.axis_core.specs.blocks.Moves.{position_of, target_of, with_target}
 use Rattle.axis_core.specs.blocks.Path.{place_on_path}
 use Rattle.axis_core.specs.blocks.Reset.{after_reset, may_reset, reset_axis, reset_notes}
 use Rattle.axis_core.specs.declared.axis.Axis.{Axis}
 use Rattle.axis_core.specs.declared.look.AxisLook.{AxisLook}
+use Rattle.axis_core.specs.declared.profile.Goal.{Goal}
+use Rattle.axis_core.specs.declared.profile.Goal.TheVariants.{FromBefore}
 use Rattle.axis_core.specs.declared.progress.Progress.{Progress}
 use Rattle.axis_state.specs.Diagram.{next_of}
 use Rattle.axis_state.specs.States.{is_error_stop}
@@ -20,7 +23,7 @@ use Rattle.buffer_modes.specs.Queue.{active_note}
 use Rattle.buffer_modes.specs.declared.reset.PendingReset.{PendingReset}
 use Rattle.plc_types.specs.declared.drive.DriveIn.{DriveIn}
 use Rattle.command_core.specs.Changes as change
-use Rattle.command_core.specs.Changes.{Change, all_changed, ends, holds, resets, awaits, joins, replaced, with_known}
+use Rattle.command_core.specs.Changes.{Change, all_changed, ends, holds, resets, replaced, with_known}
 use Rattle.command_core.specs.Laws.{AreInOrder}
 use Rattle.command_pool.specs.Waiting.{told_to}
 use Rattle.command_pool.specs.declared.ending.Finish.{Finish}
@@ -28,14 +31,13 @@ use Rattle.plc_types.specs.declared.kind.BlockKind.{BlockKind}
 use Rattle.command_pool.specs.declared.wanted.Wanted.{Wanted}
 use Rattle.motion_numbers.specs.Ranges.{is_outside}
 use Rattle.command_changes.specs.Failing.{failing}
-use Rattle.command_changes.specs.Axis.{advance_changes, command_state_of, cycle_changes, ended_changes, ending_changes, is_stop, release_changes, reset_changes, step_changes, taking_changes}
+use Rattle.command_changes.specs.Axis.{advance_changes, command_state_of, cycle_changes, ended_changes, ending_changes, is_stop, release_changes, reset_changes, step_changes, taking_changes_in}
 use Rattle.command_changes.proofs.Choices.{by_if, either}
 use Rattle.command_core.specs.Brought.{BringNone}
-use Rattle.axis_core.specs.Fates.{cycle_fate, ending_fate, is_blended, moved_fate, taker_by, taker_of}
+use Rattle.axis_core.specs.Fates.{cycle_fate, ending_fate, is_blended, moved_fate, taker_in, taker_of}
 use Rattle.buffer_modes.specs.Fates.{Fate, goes_on}
 use Rattle.command_core.specs.CommandState.{CommandState}
 use Rattle.command_pool.specs.declared.ending.Finish.TheVariants as finish
-use Rattle.plc_types.specs.declared.kind.BlockKind.TheVariants as kind
 use Rattle.buffer_modes.specs.Fates as fates
 use Rattle.command_changes.proofs.Alike.{Cycled, Goes, both_go, fails, then_goes, with_active}
 use Rattle.command_changes.proofs.Fates.{AreQuiet, By, single}
@@ -81,17 +83,17 @@ relative_takes true f w t ws c = record {
 }
 relative_takes false f w t ws c = begun_takes (Some t) f w (with_target (Some t) w) ws c refl refl
 
-kind_takes : (k : BlockKind) (t : Option ℤ) (f : Finish) (w : Wanted) (ws : List Wanted) (c : Core) →
-    Takes f (w ∷ ws) c (taker_by k t w c.axis) (taking_changes k t f w c.axis) (core_taken_by k t w (ending f ws c))
-kind_takes kind.MoveRelative None f w ws c =
+goal_takes : (g : Goal) (t : Option ℤ) (f : Finish) (w : Wanted) (ws : List Wanted) (c : Core) →
+    Takes f (w ∷ ws) c (taker_in g t w c.axis) (taking_changes_in g t f w c.axis) (core_taken_in g t w (ending f ws c))
+goal_takes (FromBefore base) None f w ws c =
     let t = c.axis.setpoint +ℤ position_of w in relative_takes (is_outside c.axis.limits.lo t c.axis.limits.hi) f w t ws c
-kind_takes kind.MoveRelative (Some t) f w ws c = begun_takes None f w w ws c refl refl
-kind_takes _ t f w ws c = begun_takes None f w w ws c refl refl
+goal_takes (FromBefore base) (Some t) f w ws c = begun_takes None f w w ws c refl refl
+goal_takes _ t f w ws c = begun_takes None f w w ws c refl refl
 
 first_takes : (f : Finish) (ws : List Wanted) (c : Core) → c.waiting ≡ ws →
     Takes f ws c (taker_of ws c.axis) (ended_changes f ws c.axis) (core_after_take_over ws (ending f c.waiting c))
 first_takes f [] c e = record { makes = rw e refl; none = (tt, tt); fated = λ blends v. record { ends = refl; begins = refl } }
-first_takes f (w ∷ ws) c e = kind_takes w.kind w.target f w ws c
+first_takes f (w ∷ ws) c e = goal_takes (profile_of w.kind).goal w.target f w ws c
 
 -- an active command ends so, or goes on
 ended_cycles : (blends : Bool) (f : Finish) (c : Core) → c.axis.active ≢ None →
@@ -116,12 +118,8 @@ ending_cycles blends (Some finish.Aborted) c some = ended_cycles blends finish.A
 abbrev pub Stays : Core → Axis → Type 0
 Stays c a = command_state_of (record c { axis = a }) ≡ command_state_of c
 
-progress_stays : (x : BlockKind) (t : ℤ) (p : Progress) (c : Core) → Stays c (axis_after_progress x t p c.axis)
-progress_stays kind.Home t p c = refl
-progress_stays _ t p c = refl
-
 result_stays : (x : BlockKind) (t : ℤ) (r : Result Progress ℕ) (c : Core) → Stays c (advance_by_progress x t c.axis r).axis
-result_stays x t (Ok p) c = progress_stays x t p c
+result_stays x t (Ok p) c = refl
 result_stays x t (Err n) c = refl
 
 command_stays : (active next : Option Wanted) (look : AxisLook) (c : Core) → Stays c (advance_by_command active next look c.axis).axis

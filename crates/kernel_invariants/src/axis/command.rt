@@ -71,7 +71,7 @@ fn is_ready(axis: &Axis, wanted: &Wanted) -> bool
         axis.now.setpoint wanted.now }
 {
     match profile_for(wanted.kind).goal {
-        Goal::FromBefore => is_fixed_within(&axis.limits, wanted),
+        Goal::FromBefore(_) => is_fixed_within(&axis.limits, wanted),
         Goal::Origin => is_home_within(axis, wanted),
         Goal::NoGoal | Goal::Given => true,
     }

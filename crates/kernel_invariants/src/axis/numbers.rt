@@ -94,7 +94,7 @@ fn has_goal(limits: &Limits, wanted: &Wanted) -> bool
 {
     match profile_for(wanted.kind).goal {
         Goal::Given => is_fixed_within(limits, wanted),
-        Goal::FromBefore => is_any_within(limits, wanted),
+        Goal::FromBefore(_) => is_any_within(limits, wanted),
         Goal::NoGoal | Goal::Origin => true,
     }
 }

@@ -1,5 +1,5 @@
 -- The axes of a group rest where its command is Done, those of a line at its targets.
--- for: paths_end_in_time, rows_follow_lines
+-- for: machines_can_stand, paths_end_in_time, rows_follow_lines
 use Rattle.std.specs.Prelude.{◌≡◌, refl, ℕ, ◌+◌, ◌<◌, ◌≤◌, true, ℤ, nat_eq, Option, Some, None, List, [], ◌∷◌, length, map}
 use Rattle.std.proofs.Common.{arith, ap, sym, subst, ◌∙◌}
 use Rattle.std.proofs.lemmas.List.{get_or-map}
@@ -128,7 +128,7 @@ toward_kept laws s cycles m (e ∷ es) j whole h f l goes =
     (kept_after laws.groups s cycles m e whole h f.0) f.1 l
     (toward_after laws s cycles m e j whole h f.0 (omega arith) goes)
 
-nowhere : (active : Option Wanted) (o : Option OnPath) → o ≡ None → IsToward active o
+pub nowhere : (active : Option Wanted) (o : Option OnPath) → o ≡ None → IsToward active o
 nowhere active o none w on e k path = absurd (let x : None ≡ Some on = sym none ∙ path in cc)
 
 no_def : GroupDef

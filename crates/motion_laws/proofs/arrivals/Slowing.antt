@@ -1,5 +1,5 @@
 -- The rows of an axis under a Halt or a Stop slow down.
--- for: errors_have_causes, rows_slow_under_halts, rows_follow_lines
+-- for: rows_slow_under_halts, rows_follow_lines
 use Rattle.std.specs.Prelude.{◌≡◌, ◌≢◌, refl, ℕ, ◌<◌, ◌-◌, ◌≤◌, ℤ, ◌+ℤ◌, ◌-ℤ◌, ◌≤ℤ◌, pos, Bool, true, false, ◌&&◌, nat_eq, if◌then◌else◌, unsigned_abs, Option, Some, None, List, ◌∷◌, ◌++◌, length, slice_get}
 use Rattle.std.proofs.Common.{arith, ap, subst, sym, ◌∙◌}
 use Rattle.std.proofs.lemmas.Int.{ints}

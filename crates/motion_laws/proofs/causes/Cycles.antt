@@ -1,6 +1,6 @@
 -- What brings an axis or a group its error in a cycle of the machine.
 -- for: errors_have_causes
-use Rattle.std.specs.Prelude.{◌≡◌, ℕ, ℤ, ◌+ℤ◌, ◌<◌, true, false, nat_eq, List, length}
+use Rattle.std.specs.Prelude.{◌≡◌, ℕ, ℤ, refl, ◌+ℤ◌, ◌<◌, true, false, nat_eq, List, length}
 use Rattle.std.proofs.Common.{arith, ap, subst, sym, inl, inr, ◌∙◌}
 use Rattle.axis_core.specs.AxisKept as kept
 use Rattle.axis_core.specs.Drives.{answer_error_of}
@@ -58,7 +58,7 @@ axis_brought exact laws s m ins n h l running stopped =
     let is = goes.after in
     let core_kept = goes.kept in
     subst (λ (a : Axis). CycleBrings look core a.setpoint a.error) (sym is)
-    (cycle_caused look core (takes_safe exact (axis_at m n) core_kept.axis) running
+    ((cycle_caused look core refl (takes_safe exact (axis_at m n) core_kept.axis) running).axis
     (ap (λ (a : Axis). axis.is_error_stop a.state) (sym is) ∙ stopped))
 
 -- an error of a member is that of its first axis whose drive brings one

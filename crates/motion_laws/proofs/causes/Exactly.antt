@@ -10,8 +10,9 @@ use Rattle.axis_state.specs.States.{is_error_stop}
 use Rattle.plc_types.specs.declared.drive.DriveIn.{DriveIn}
 use Rattle.motion_numbers.specs.Ranges.{is_outside}
 use Rattle.motion_laws.proofs.causes.Answers.{faults, operational, takes}
+use Rattle.motion_laws.proofs.causes.Wishes.{both_hold}
 use Rattle.motion_laws.proofs.error_ids.Tests.{outside}
-use Rattle.motion_laws.specs.causes.Axis.{AnswerBrings, ComesOutside, LosesDrive, ReportsFault}
+use Rattle.motion_laws.specs.causes.Axis.{AnswerBrings, ComesOutside, LosesDrive}
 use Rattle.motion_laws.specs.causes.Axis as by
 
 -- the tests of an answer
@@ -42,14 +43,10 @@ loses a d h =
       | inr off ↦ ap not off
     ])
 
-both : (x y : Bool) → x ≡ true → y ≡ true → x && y ≡ true
-both true y h k = k
-both false y h k = absurd (cc)
-
 comes : (a : Axis) (d : DriveIn) → ComesOutside a d →
     is_powered a && is_operational d && not a.driven && not (is_within a d) ≡ true
 comes a d h =
-    both (is_powered a && is_operational d && not a.driven) (not (is_within a d))
+    both_hold (is_powered a && is_operational d && not a.driven) (not (is_within a d))
     (all_three (is_powered a) (is_operational d) (not a.driven) h.powered (takes d h.takes)
     (ap not h.idle))
     (twice (is_outside a.limits.lo (actual_of a d) a.limits.hi)

@@ -32,7 +32,7 @@ use Rattle.motion_kernel.specs.cycles.Cycles.{after_cycle, look_of_axis, look_of
 use Rattle.motion_kernel.specs.kept.Machine.{IsMachineKept}
 use Rattle.motion_kernel.specs.owners.Blocks.{command_state_at}
 use Rattle.motion_kernel.specs.owners.Objects.{IsThere, Object, a_group, an_axis}
-use Rattle.motion_laws.proofs.causes.AxisNotes.{AllCaused, cycle_notes}
+use Rattle.motion_laws.proofs.causes.AxisCycles.{AllCaused, cycle_caused}
 use Rattle.motion_laws.proofs.causes.Calls.{by_block}
 use Rattle.motion_laws.proofs.causes.Cycles.{TakesExactly, fails_by, takes_safe}
 use Rattle.motion_laws.proofs.causes.GroupNotes as groups
@@ -92,7 +92,7 @@ axis_reported exact laws s m c rows grows n k error h l e =
           let told : AllCaused look core place
           (all_changed (axis.cycle_changes look core) (axis.command_state_of core)).notes =
           subst (AllCaused look core place) (ap (λ (d : CommandState). d.notes) same)
-          (cycle_notes look core refl (takes_safe exact a axis_kept) running) in
+          (cycle_caused look core refl (takes_safe exact a axis_kept) running).notes in
           subst (λ (x : Axis). CycleBrings look core x.setpoint error) (sym goes.after)
           (told_in (λ j x. CycleBrings look core place x) k error _ told e)
     ]

@@ -1,5 +1,5 @@
 -- What the active command wants where its wish is an error.
--- for: errors_have_causes
+-- for: errors_have_causes, commands_end_by_their_kinds
 use Rattle.std.specs.Prelude.{◌≡◌, refl, ℕ, ◌<◌, ℤ, ◌+ℤ◌, ◌-ℤ◌, ◌≤ℤ◌, ◌<ℤ◌, pos, Bool, true, false, ◌&&◌, ◌||◌, int_lt, nat_lt, if◌then◌else◌, unsigned_abs, Option, Some, Result, Ok, Err}
 use Rattle.std.specs.Ordering.{int_eq}
 use Rattle.std.proofs.Common.{arith, ap, inl, inr}
@@ -37,7 +37,7 @@ negative z h = grind (arith, ints)
 smaller : (x y : ℕ) → x < y → nat_lt x y ≡ true
 smaller x y h = grind (arith, nat_tests)
 
-both_hold : (x y : Bool) → x ≡ true → y ≡ true → x && y ≡ true
+pub both_hold : (x y : Bool) → x ≡ true → y ≡ true → x && y ≡ true
 both_hold true y h k = k
 both_hold false y h k = absurd (cc)
 

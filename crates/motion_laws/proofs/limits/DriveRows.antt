@@ -70,10 +70,6 @@ stepped_driven look driven c =
 
 -- ---- and else stands where its drive does
 
-stood : (look : AxisLook) (driven : Bool) (c : Core) → (driven && c.axis.driven) ≡ false →
-    place_of (core_after_step look driven c).axis ≡ place_of (axis_at_drive driven look.input c.axis)
-stood look driven c off = rw off refl
-
 failed_stood : (n : ℕ) (look : AxisLook) (driven : Bool) (c : Core) → (driven && c.axis.driven) ≡ false →
     place_of (core_after_step look driven (core_after_error n c)).axis ≡ place_of (axis_at_drive driven look.input c.axis)
 unfolding core_after_error
@@ -84,7 +80,7 @@ answered_stood : (look : AxisLook) (driven : Bool) (c : Core) → (driven && c.a
 answered_stood look driven c off =
     by-test (λ (x : Core). place_of (core_after_step look driven x).axis ≡ place_of (axis_at_drive driven look.input c.axis))
     (nat_eq (answer_error_of c.axis look.input) 0) c (core_after_error (answer_error_of c.axis look.input) c)
-    (λ h. stood look driven c off) (λ h. failed_stood (answer_error_of c.axis look.input) look driven c off)
+    (λ h. rw off refl) (λ h. failed_stood (answer_error_of c.axis look.input) look driven c off)
 
 -- ---- a cycle and its row
 

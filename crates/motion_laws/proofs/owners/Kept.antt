@@ -1,13 +1,11 @@
 -- Every event keeps that commands are where their instances show, and the active ones.
 -- for: machines_can_stand, replies_show_commands, commands_are_where_their_instances_show and others
-use Rattle.std.specs.Prelude.{◌≡◌, ℕ, ◌<◌, ◌≤◌, Bool, false, nat_eq, if◌then◌else◌, List, length, slice_get}
+use Rattle.std.specs.Prelude.{◌≡◌, ℕ, ◌<◌, ◌≤◌, false, nat_eq, if◌then◌else◌, List, length, slice_get}
 use Rattle.std.proofs.Common.{arith, ap, sym, ◌∙◌}
 use Rattle.std.proofs.lemmas.Bool.{eqb-false}
 use Rattle.std.proofs.lemmas.List.{get_or-set_other, length-set}
-use Rattle.axis_core.specs.Calls.{core_after_power}
 use Rattle.buffer_modes.specs.Owners.{ends_given}
 use Rattle.plc_types.specs.declared.drive.DriveIn.{DriveIn}
-use Rattle.command_changes.specs.Axis as axis
 use Rattle.command_core.specs.Brought.{brought}
 use Rattle.command_core.specs.Changes.{all_changed}
 use Rattle.command_core.specs.CommandState.{active_of, owns}
@@ -18,19 +16,19 @@ use Rattle.motion_history.specs.Calls.{IsCall}
 use Rattle.motion_history.specs.Entries.{Entry}
 use Rattle.motion_history.specs.Setup.{Setup, IsSetup}
 use Rattle.motion_kernel.specs.Histories.{IsPast, replay}
-use Rattle.motion_kernel.specs.Machine.{Machine, machine_at_opening, axis_core_at, instance_at, no_instance}
-use Rattle.motion_kernel.specs.calls.Calls.{after_call, with_axis_core, with_instance}
+use Rattle.motion_kernel.specs.Machine.{Machine, machine_at_opening, instance_at, no_instance}
+use Rattle.motion_kernel.specs.calls.Calls.{after_call, with_instance}
 use Rattle.motion_kernel.specs.cycles.AxisCycles.{axes_cycled}
 use Rattle.motion_kernel.specs.cycles.Cycles.{after_cycle}
 use Rattle.motion_kernel.specs.cycles.GroupResets.{groups_reset}
 use Rattle.motion_kernel.specs.cycles.GroupSteps.{groups_stepped}
 use Rattle.motion_kernel.specs.kept.Machine.{AreWhole, IsMachineKept}
 use Rattle.motion_kernel.specs.looks.AxisLooks.{Surroundings}
-use Rattle.motion_kernel.proofs.Sizes.{sized_axis, told_length}
+use Rattle.motion_kernel.proofs.Sizes.{told_length}
 use Rattle.motion_kernel.specs.owners.Commands.{ActiveAreShown, CommandsAreShown, active_at, active_shown, commands_at, commands_shown}
-use Rattle.motion_kernel.specs.owners.Objects.{an_axis, IsThere, Object, has_commands_on, is_same}
+use Rattle.motion_kernel.specs.owners.Objects.{IsThere, Object, has_commands_on, is_same}
 use Rattle.motion_kernel.proofs.owners.Counts.{shown_by}
-use Rattle.motion_laws.proofs.owners.Events.{active_in, axis_changes, commands_of, event_changes, event_keeps, event_keeps_waiting, free_active, free_none, free_shown}
+use Rattle.motion_laws.proofs.owners.Events.{active_in, commands_of, event_changes, event_keeps, event_keeps_waiting, free_active, free_none, free_shown}
 use Rattle.motion_kernel.proofs.owners.Blocks.{untold}
 use Rattle.motion_laws.proofs.owners.active.Calls.{executed_active, instance_active, reply_active}
 use Rattle.motion_laws.proofs.owners.active.Cycles.{found_truly, opening_truly_shown}
@@ -203,18 +201,6 @@ module _ (laws : OwnerLaws) where
 
   shown_of : (s : Setup) (m : Machine) → Good s (CommandsAreShown s) m → IsGood s m
   shown_of s m h = record { sized = h.sized; shown = h.keeps }
-
-  pub power_good : (s : Setup) (n : ℕ) (enable : Bool) (m : Machine) → n < length m.axes → IsGood s m →
-      IsGood s (with_axis_core m n (core_after_power enable (axis_core_at m n)))
-  power_good s n enable m l h =
-      let c = axis_core_at m n in
-      let d = core_after_power enable c in
-      let xs = axis.power_changes enable c in
-      record {
-        sized = sized_axis s m n d h.sized;
-        shown = λ k. event_shown s k m (with_axis_core m n d) (an_axis n) d.notes
-            (axis_changes laws s k n m d xs h.sized l (laws.walk.axis.power enable c) (laws.once.none k xs (laws.walk.axis.power_brings enable c))) (h.shown k);
-      }
 
   pub steps_good : (s : Setup) (n : ℕ) (ins : List DriveIn) (m : Machine) → n ≤ length s.groups → IsGood s m → IsGood s (groups_stepped s n ins m).machine
   steps_good s n ins m l h =

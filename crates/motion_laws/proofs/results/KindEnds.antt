@@ -7,16 +7,15 @@ use Rattle.axis_core.specs.Cores as axes
 use Rattle.axis_core.specs.Cycles.{Advance, advance_by_command, advance_by_progress, advance_in_cycle, advance_without_error, progress_by_step}
 use Rattle.axis_core.specs.Drives.{answer_error_of, is_driven}
 use Rattle.axis_core.specs.Fates as axis_fates
-use Rattle.axis_core.specs.Kinds.{ending_by, wish_by}
-use Rattle.axis_core.specs.Steps.{ends_where, gives_way, step_for_wish}
-use Rattle.axis_core.specs.blocks.Cam.{is_in_sync}
-use Rattle.axis_core.specs.blocks.Gear.{is_in_gear}
-use Rattle.axis_core.specs.blocks.Halts.{is_rest}
-use Rattle.axis_core.specs.blocks.Moves.{blended_with, is_done_by, target_of}
+use Rattle.axis_core.specs.Kinds.{end_by, wish_by}
+use Rattle.axis_core.specs.Profiles.{profile_of}
+use Rattle.axis_core.specs.Steps.{step_for_wish}
+use Rattle.axis_core.specs.blocks.Moves.{target_of}
 use Rattle.axis_core.specs.blocks.Path.{place_on_path}
-use Rattle.axis_core.specs.blocks.Velocity.{is_in_velocity}
 use Rattle.axis_core.specs.declared.axis.Axis.{Axis}
 use Rattle.axis_core.specs.declared.look.AxisLook.{AxisLook}
+use Rattle.axis_core.specs.declared.profile.Closes.{Closes}
+use Rattle.axis_core.specs.declared.profile.Closes.TheVariants.{Never, AtOnce, WhenDone, ForNext}
 use Rattle.axis_state.specs.States.{is_error_stop}
 use Rattle.plc_types.specs.declared.axis.AxisRow.{AxisRow}
 use Rattle.buffer_modes.specs.Fates.{Fate, goes_on, replaced}
@@ -61,6 +60,7 @@ use Rattle.motion_kernel.specs.owners.Blocks.{command_state_at}
 use Rattle.motion_laws.specs.results.KindEnds.{EndByKinds, GivesWay, may_be_done, may_give_way}
 use Rattle.motion_laws.specs.results.Outcomes.{answer_in, end_answered, end_by_edge, end_of_command, finish_in}
 use Rattle.motion_laws.specs.results.Results.{KeepsResults, ResultsAreTold, end_in}
+use Rattle.motion_laws.proofs.causes.AxisCycles.{fate_ends}
 use Rattle.motion_laws.proofs.Histories.{past_so_far}
 use Rattle.motion_laws.proofs.entries.numbers.Groups.{OnlyDone, path_done}
 use Rattle.motion_kernel.proofs.owners.Counts.{found_in}
@@ -78,32 +78,24 @@ EndsRight x next (Some finish.Done) = may_be_done x ≡ true
 EndsRight x next (Some finish.Aborted) = (may_give_way x ≡ true) × (is_some next ≡ true)
 EndsRight x next (Some (finish.Error n)) = Unit {0}
 
-where_right : (x : BlockKind) (next : Option Wanted) (b : Bool) → may_be_done x ≡ true →
-    EndsRight x next (ends_where b finish.Done)
-where_right x next b h = by_if (EndsRight x next) b (Some finish.Done) None h tt
+-- whether a kind may end as its commands close
+abbrev may_close : Closes → BlockKind → Bool
+may_close Never x = true
+may_close ForNext x = may_give_way x
+may_close closes x = may_be_done x
 
-gives_right : (x : BlockKind) (next : Option Wanted) (reached : Bool) → may_give_way x ≡ true →
-    EndsRight x next (gives_way next reached)
-gives_right x None reached h = tt
-gives_right x (Some w) reached h =
-    by_if (EndsRight x (Some w)) reached (Some finish.Aborted) None (h, refl) tt
+closes_as_may : (x : BlockKind) → may_close (profile_of x).closes x ≡ true
+closes_as_may kind.Home = refl
+closes_as_may _ = refl
 
-kind_right : (x : BlockKind) (a : Axis) (w : Wanted) (next : Option Wanted) (step : ℤ)
-    (look : AxisLook) → EndsRight x next (ending_by x a w next step look)
-kind_right kind.Home a w next step look = refl
-kind_right kind.Stop a w next step look = where_right kind.Stop next (is_rest step) refl
-kind_right kind.Halt a w next step look = where_right kind.Halt next (is_rest step) refl
-kind_right kind.MoveAbsolute a w next step look =
-    where_right kind.MoveAbsolute next (is_done_by (blended_with a w next) a w step) refl
-kind_right kind.MoveRelative a w next step look =
-    where_right kind.MoveRelative next (is_done_by (blended_with a w next) a w step) refl
-kind_right kind.MoveVelocity a w next step look =
-    gives_right kind.MoveVelocity next (is_in_velocity w step) refl
-kind_right kind.GearIn a w next step look =
-    gives_right kind.GearIn next (is_in_gear w step look) refl
-kind_right kind.CamIn a w next step look =
-    gives_right kind.CamIn next (look.cam_ended && is_in_sync a look) refl
-kind_right _ a w next step look = tt
+closes_right : (c : Closes) (x : BlockKind) (next : Option Wanted) (holds : Bool) →
+    may_close c x ≡ true → EndsRight x next (end_by c next holds)
+closes_right Never x next holds h = tt
+closes_right AtOnce x next holds h = h
+closes_right WhenDone x next holds h = by_if (EndsRight x next) holds (Some finish.Done) None h tt
+closes_right ForNext x None holds h = tt
+closes_right ForNext x (Some w) holds h =
+    by_if (EndsRight x (Some w)) holds (Some finish.Aborted) None (h, refl) tt
 
 -- the active command, if there is one
 abbrev ActiveEnds : Option Wanted → Option Wanted → Option Finish → Type 0
@@ -117,7 +109,8 @@ none_right (Some w) next = tt
 progress_right : (a : Axis) (w : Wanted) (next : Option Wanted) (look : AxisLook) (r : Result ℤ ℕ) →
     EndsRight w.kind next
     (advance_by_progress w.kind (target_of w) a (progress_by_step a w next look r)).ending
-progress_right a w next look (Ok step) = kind_right w.kind a w next step look
+progress_right a w next look (Ok step) =
+    closes_right (profile_of w.kind).closes w.kind next _ (closes_as_may w.kind)
 progress_right a w next look (Err n) = tt
 
 command_right : (active next : Option Wanted) (look : AxisLook) (a : Axis) →
@@ -137,13 +130,6 @@ unfolding advance_in_cycle
 advance_right next look a =
     by_if (λ (x : Advance). ActiveEnds a.active next x.ending) (is_error_stop a.state) _ _
     (none_right a.active next) (placed_right (place_on_path a look) next look a)
-
-fate_ends : (blends : Bool) (f : Option Finish) (ws : List Wanted) (a : Axis) →
-    (axis_fates.ending_fate blends f ws a).ends ≡ f
-fate_ends blends None ws a = refl
-fate_ends blends (Some (finish.Error n)) ws a = refl
-fate_ends blends (Some finish.Done) ws a = refl
-fate_ends blends (Some finish.Aborted) ws a = refl
 
 failed_right : (active next : Option Wanted) (n : ℕ) →
     ActiveEnds active next (replaced (finish.Error n) active None).ends

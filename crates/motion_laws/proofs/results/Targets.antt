@@ -44,18 +44,15 @@ use Rattle.motion_kernel.proofs.walk.Keeps.{WalkLaws}
 -- a move acts on an axis, resets nothing, and is not Done in its call
 on_axis : (x : BlockKind) → is_move x ≡ true → acts_on_group x ≡ false
 on_axis kind.MoveAbsolute h = refl
-on_axis kind.MoveRelative h = refl
-on_axis _ h = absurd (cc)
+on_axis _ h = cc
 
 no_reset : (x : BlockKind) → is_move x ≡ true → is_reset x ≡ true → ⊥
 no_reset kind.MoveAbsolute h r = cc
-no_reset kind.MoveRelative h r = cc
-no_reset _ h r = absurd (cc)
+no_reset _ h r = cc
 
 not_at_once : (x : BlockKind) → is_move x ≡ true → is_done_at_once x ≡ false
 not_at_once kind.MoveAbsolute h = refl
-not_at_once kind.MoveRelative h = refl
-not_at_once _ h = absurd (cc)
+not_at_once _ h = cc
 
 answered_not : (x : BlockKind) (answer : Result Bool Refusal) → is_move x ≡ true → end_answered x answer ≡ Some finish.Done → ⊥
 answered_not x (Err r) h e = cc

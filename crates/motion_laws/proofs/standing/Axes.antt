@@ -28,7 +28,8 @@ use Rattle.motion_kernel.specs.calls.Calls.{after_call, with_execute}
 use Rattle.motion_kernel.specs.cycles.Cycles.{after_cycle, look_of_axis}
 use Rattle.motion_kernel.specs.kept.Machine.{AreWhole, IsMachineKept}
 use Rattle.motion_laws.proofs.standing.Orders.{AsksWell, command_orders, cycle_orders, detached_orders, follow_asked, led_orders, master_asked, no_orders, power_orders}
-use Rattle.motion_laws.proofs.standing.Steered.{command_put, cycle_steered, detached_put, opened_steered, path_put, power_put, put}
+use Rattle.motion_laws.proofs.standing.Steered.{cycle_steered, opened_steered, put}
+use Rattle.motion_laws.proofs.walk.Stays.{command_stands, detached_stands, path_stands, power_stands}
 use Rattle.motion_laws.proofs.walk.AxisCalls as axes
 use Rattle.motion_laws.specs.Orders.{AreOrders}
 use Rattle.motion_laws.specs.Standing.{AxisStands, IsSteered}
@@ -55,19 +56,19 @@ said laws s n a ws h = record {
         (λ b y o. led_orders s n b y (map (detached owner) ws) o) on (axis_without_owner owner a)
         (detached_orders s n owner a ws h.orders);
     steered = axes.path_led (λ (y : Axis). IsSteered y)
-        (λ b y o. put y (axis_on_path b y) (path_put b y) o) on (axis_without_owner owner a)
-        (put a (axis_without_owner owner a) (detached_put owner a) h.steered);
+        (λ b y o. put y (axis_on_path b y) (path_stands b y) o) on (axis_without_owner owner a)
+        (put a (axis_without_owner owner a) (detached_stands owner a) h.steered);
   };
   detach = λ owner. record {
     command = (laws.detach owner a).command h.command;
     orders = detached_orders s n owner a ws h.orders;
-    steered = put a (axis_without_owner owner a) (detached_put owner a) h.steered;
+    steered = put a (axis_without_owner owner a) (detached_stands owner a) h.steered;
   };
   power = λ enable c e us. record {
     command = (laws.power enable c).command
         (subst (λ (y : Axis). HasCommand y) (sym e) h.command);
     orders = power_orders s n enable c (given c a ws e us h.orders);
-    steered = put c.axis (core_after_power enable c).axis (power_put enable c)
+    steered = put c.axis (core_after_power enable c).axis (power_stands enable c)
         (subst (λ (y : Axis). IsSteered y) (sym e) h.steered);
   };
   command = λ owner q c e us well. record {
@@ -76,9 +77,9 @@ said laws s n a ws h = record {
     orders = command_orders s n q c well
         (given c (axis_without_owner owner a) (map (detached owner) ws) e us
         (detached_orders s n owner a ws h.orders));
-    steered = put c.axis (core_after_command q c).axis (command_put q c)
+    steered = put c.axis (core_after_command q c).axis (command_stands q c)
         (subst (λ (y : Axis). IsSteered y) (sym e)
-        (put a (axis_without_owner owner a) (detached_put owner a) h.steered));
+        (put a (axis_without_owner owner a) (detached_stands owner a) h.steered));
   };
 }
   where

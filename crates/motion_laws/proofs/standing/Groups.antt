@@ -1,7 +1,7 @@
 -- What a group, its path and what waits for it keep in every call and every cycle.
 -- for: machines_can_stand
-use Rattle.std.specs.Prelude.{◌≡◌, refl, ℕ, zero, suc, ◌<◌, Bool, ℤ, Option, Some, None, List, [], ◌∷◌, length, map, slice_get}
-use Rattle.std.proofs.Common.{arith, ap, sym, subst, ◌∙◌}
+use Rattle.std.specs.Prelude.{◌≡◌, refl, ℕ, zero, suc, ◌<◌, Bool, ℤ, Option, Some, None, List, [], ◌∷◌, length, map}
+use Rattle.std.proofs.Common.{arith, sym, subst}
 use Rattle.buffer_modes.specs.declared.reset.PendingReset.{PendingReset}
 use Rattle.plc_types.specs.declared.drive.DriveIn.{DriveIn}
 use Rattle.command_pool.specs.declared.wanted.Wanted.{Wanted}
@@ -10,7 +10,7 @@ use Rattle.plc_types.specs.declared.axis_state.AxisState.{AxisState}
 use Rattle.group_core.specs.Calls.{commanded, group_without, powered_off}
 use Rattle.group_core.specs.Cores.{Core}
 use Rattle.group_core.specs.Cycles as group
-use Rattle.group_core.specs.Cycles.{reset_cycled, reset_where}
+use Rattle.group_core.specs.Cycles.{reset_where}
 use Rattle.group_core.specs.Refusals.{states_in}
 use Rattle.group_core.specs.Targets.{IsToward}
 use Rattle.group_core.specs.Tracks.{OnPath}
@@ -19,15 +19,15 @@ use Rattle.group_core.specs.declared.group.Group.{Group}
 use Rattle.group_core.specs.declared.look.GroupLook.{GroupLook}
 use Rattle.motion_history.specs.Calls.{IsCall}
 use Rattle.motion_history.specs.Setup.{Setup}
-use Rattle.motion_history.specs.declared.config.BlockDef.{BlockDef}
 use Rattle.motion_history.specs.declared.config.GroupDef.{GroupDef}
 use Rattle.motion_kernel.proofs.Sizes.{by_if}
 use Rattle.motion_kernel.proofs.walk.Keeps.{WalkLaws}
-use Rattle.motion_kernel.specs.Machine.{Machine, PlacedGroup, group_among, group_at, group_at_opening, group_core_at}
+use Rattle.motion_kernel.specs.Machine.{Machine, PlacedGroup, group_among, group_at_opening, group_core_at}
 use Rattle.motion_kernel.specs.calls.Calls.{after_call}
 use Rattle.motion_kernel.specs.cycles.Cycles.{after_cycle, look_of_group}
 use Rattle.motion_kernel.specs.kept.Machine.{AreWhole, IsMachineKept}
 use Rattle.motion_laws.proofs.arrivals.Paths.{IsLasting, by_cycle, there}
+use Rattle.motion_laws.proofs.arrivals.PathsDone.{nowhere}
 use Rattle.motion_laws.proofs.walk.GroupCalls.{IsByFate, by_call}
 use Rattle.motion_laws.specs.Standing.{GroupStands}
 
@@ -102,9 +102,6 @@ cycle_stands laws s m ins j kept l h =
     })
 
 -- at opening no group is on a path
-nowhere : (active : Option Wanted) (o : Option OnPath) → o ≡ None → IsToward active o
-nowhere active o none w on e k path = absurd (let x : None ≡ Some on = sym none ∙ path in cc)
-
 pub opened_stands : (ds : List GroupDef) (j : ℕ) → j < length ds → (ws : List Wanted) → ws ≡ [] →
     GroupStands (group_among (map group_at_opening ds) j) ws
 opened_stands [] j l ws e = absurd (omega arith)

@@ -1,13 +1,18 @@
 -- What the commands of an axis were asked for stays so in every call and every cycle.
 -- for: machines_can_stand
-use Rattle.std.specs.Prelude.{◌≡◌, refl, ℕ, ◌<◌, Bool, true, false, ◌&&◌, nat_eq, nat_lt, is_some, if◌then◌else◌, ℤ, ◌+ℤ◌, Option, Some, None, Result, Ok, Err, List, [], ◌∷◌, ◌++◌, length, map, slice_get}
+use Rattle.std.specs.Prelude.{◌≡◌, refl, ℕ, ◌<◌, Bool, true, false, ◌&&◌, nat_eq, if◌then◌else◌, ℤ, ◌+ℤ◌, Option, Some, None, List, [], ◌∷◌, ◌++◌, length, map, slice_get}
 use Rattle.std.specs.List.{AllByRecursion}
-use Rattle.std.proofs.Common.{arith, ap, sym, subst, ◌∙◌, inl, inr}
+use Rattle.std.proofs.Common.{ap, sym, subst, ◌∙◌, inl, inr}
 use Rattle.std.proofs.lemmas.Bool.{cases_Bool, lt-ltb}
+use Rattle.axis_core.specs.blocks.Moves.{is_relative_in}
+use Rattle.axis_core.specs.declared.profile.Goal.{Goal}
+use Rattle.axis_core.specs.declared.profile.Goal.TheVariants.{FromBefore}
+use Rattle.axis_core.specs.Profiles.{profile_of}
+use Rattle.axis_core.proofs.AxisWalk.{by-test}
 use Rattle.axis_core.proofs.MayAdmit.{none-held}
-use Rattle.axis_core.specs.Calls.{axis_without_owner, core_after_admission, core_after_command, core_after_disabling, core_after_joining, core_after_leaving, core_after_power, core_after_verdict, core_with_queued, core_with_reset, queue_in}
-use Rattle.axis_core.specs.Cores.{Core, axis_under, axis_under_by, core_after_end, core_after_ending, core_after_error, core_after_take_over, core_taken_by, core_under_from}
-use Rattle.axis_core.specs.Cycles.{Advance, advance_by_command, advance_by_progress, advance_in_cycle, advance_without_error, axis_after_progress, axis_after_word, core_after_advance, core_after_answer, core_after_cycle, core_after_going_on, core_after_reset, core_after_step, progress_in_cycle}
+use Rattle.axis_core.specs.Calls.{axis_without_owner, core_after_admission, core_after_command, core_after_joining, core_after_leaving, core_after_power, core_after_verdict, core_with_queued, queue_in}
+use Rattle.axis_core.specs.Cores.{Core, axis_under, axis_under_by, core_after_end, core_after_ending, core_after_error, core_after_take_over, core_taken_in}
+use Rattle.axis_core.specs.Cycles.{advance_in_cycle, core_after_advance, core_after_answer, core_after_cycle, core_after_going_on, core_after_step}
 use Rattle.axis_core.specs.Demands.{IsMade, asked_target}
 use Rattle.axis_core.specs.Drives.{answer_error_of, axis_at_drive, is_driven}
 use Rattle.axis_core.specs.Kinds.{may_wait, tests_of}
@@ -15,12 +20,11 @@ use Rattle.axis_core.specs.Refusals.{Asked, first_holding, holds, refusal_of}
 use Rattle.axis_core.specs.blocks.Cam.{is_no_table}
 use Rattle.axis_core.specs.blocks.Gear.{is_master, velocity_command}
 use Rattle.axis_core.specs.blocks.Halts.{axis_after_stop, hold_by, leaves_stopping}
-use Rattle.axis_core.specs.blocks.Moves.{known_target_by, known_target_of, position_of, target_of, with_target}
-use Rattle.axis_core.specs.blocks.Path.{axis_on_path, place_on_path}
-use Rattle.axis_core.specs.blocks.Reset.{after_reset, may_reset, reset_axis}
+use Rattle.axis_core.specs.blocks.Moves.{known_target_in, known_target_of, position_of, with_target}
+use Rattle.axis_core.specs.blocks.Path.{axis_on_path}
+use Rattle.axis_core.specs.blocks.Reset.{may_reset, reset_axis}
 use Rattle.axis_core.specs.declared.axis.Axis.{Axis}
 use Rattle.axis_core.specs.declared.look.AxisLook.{AxisLook}
-use Rattle.axis_core.specs.declared.progress.Progress.{Progress}
 use Rattle.axis_core.specs.declared.reason.Reason.{Reason}
 use Rattle.axis_core.specs.declared.reason.Reason.TheVariants.{NoTable, SelfMaster}
 use Rattle.axis_state.specs.States.{is_error_stop}
@@ -28,6 +32,8 @@ use Rattle.buffer_modes.specs.Owners.{active_without}
 use Rattle.buffer_modes.specs.Queue.{Commands, admitted, behind, is_aborting, is_active_at_once}
 use Rattle.buffer_modes.specs.declared.reset.PendingReset.{PendingReset}
 use Rattle.plc_types.specs.declared.drive.DriveIn.{DriveIn}
+use Rattle.command_changes.proofs.axis.Cycles.{advance_stays}
+use Rattle.command_core.specs.CommandState.{CommandState}
 use Rattle.command_pool.specs.Waiting.{detached, last_of, without}
 use Rattle.command_pool.specs.declared.ending.Finish.{Finish}
 use Rattle.command_pool.specs.declared.ending.Finish.TheVariants as finish
@@ -76,11 +82,9 @@ follows k = false
 none_followed : (k : BlockKind) (f : Follow) → follows k ≡ false → is_follow_of k f ≡ true →
     f ≡ follow.None
 none_followed k follow.None a b = refl
-none_followed kind.GearIn (follow.Gear m n d) a b = absurd (cc)
-none_followed kind.CamIn (follow.Gear m n d) a b = absurd (cc)
+none_followed kind.GearIn f a b = absurd (cc)
+none_followed kind.CamIn f a b = absurd (cc)
 none_followed _ (follow.Gear m n d) a b = absurd (cc)
-none_followed kind.GearIn (follow.Cam m t) a b = absurd (cc)
-none_followed kind.CamIn (follow.Cam m t) a b = absurd (cc)
 none_followed _ (follow.Cam m t) a b = absurd (cc)
 
 not_refused : (q : Asked) (k : BlockKind) → q.wanted.kind ≡ k → refusal_of q ≡ None →
@@ -113,15 +117,15 @@ table_by q kind.CamIn is none f =
 table_by q k is none f = ap (is_no_table q.tables) (none_followed k q.wanted.follow refl f)
 
 -- the target is known in the call, unless the command is relative
-known_by : (k : BlockKind) (a : Axis) (last : Option Wanted) (w : Wanted) → is_relative k ≡ false →
-    known_target_by k a last w ≡ w.target
-known_by kind.MoveRelative a last w h = absurd (cc)
-known_by _ a last w h = refl
+known_in : (g : Goal) (a : Axis) (last : Option Wanted) (w : Wanted) → is_relative_in g ≡ false →
+    known_target_in g a last w ≡ w.target
+known_in (FromBefore base) a last w h = absurd (cc)
+known_in _ a last w h = refl
 
 known : (a : Axis) (last : Option Wanted) (w : Wanted) → is_relative w.kind ≡ false →
     known_target_of a last w ≡ w.target
 unfolding known_target_of
-known a last w h = known_by w.kind a last w h
+known a last w h = known_in (profile_of w.kind).goal a last w h
 
 same_asked : (k : BlockKind) (t : Option ℤ) (w : Wanted) →
     asked_target k (with_target t w) ≡ asked_target k w
@@ -272,14 +276,10 @@ module _ (s : Setup) (n : ℕ) where
       record { active = h; waiting = more ws w g (queued w order later) }
 
   joined : (c : Core) (w : Wanted) → AreIn c → IsOrder s n w → AreQueue (admitted (queue_in c) w)
-  joined c w h order = elim (cases_Bool (is_aborting w.mode)) [
-    | inl e ↦ subst (λ b. AreQueue (if b then record { active = Some w; waiting = [] }
-        else behind c.axis.active c.waiting w)) (sym e)
-        (record { active = just w order; waiting = tt })
-    | inr d ↦ subst (λ b. AreQueue (if b then record { active = Some w; waiting = [] }
-        else behind c.axis.active c.waiting w)) (sym d)
-        (joined_behind c.axis.active c.waiting w h.active h.waiting order d)
-  ]
+  joined c w h order =
+      by-test AreQueue (is_aborting w.mode) (record { active = Some w; waiting = [] })
+      (behind c.axis.active c.waiting w) (λ e. record { active = just w order; waiting = tt })
+      (λ d. joined_behind c.axis.active c.waiting w h.active h.waiting order d)
 
   joins : (w : Wanted) (c : Core) → AreIn c → IsOrder s n w → IsOfItsBlock s w →
       AreIn (core_after_joining w c)
@@ -332,27 +332,27 @@ module _ (s : Setup) (n : ℕ) where
   failed x c = record { active = nothing; waiting = tt; hold = nobody }
 
   -- the first that waits takes over
-  fixed : (t : ℤ) (w : Wanted) → IsOrder s n w → w.kind ≡ kind.MoveRelative →
+  fixed : (t : ℤ) (w : Wanted) → IsOrder s n w → is_relative w.kind ≡ true →
       IsOrder s n (with_target (Some t) w)
   fixed t w h is = record {
     follow = h.follow;
     other = h.other;
     table = h.table;
     there = h.there;
-    target = λ r. absurd (let bad : true ≡ false = ap is_relative (sym is) ∙ r in cc);
+    target = λ r. absurd (let bad : true ≡ false = sym is ∙ r in cc);
     mode = h.mode;
   }
 
-  takes_by : (k : BlockKind) (t : Option ℤ) (w : Wanted) (ws : List Wanted) (c : Core) →
-      w.kind ≡ k → IsQueued s n w → AllByRecursion (IsQueued s n) ws →
-      AreIn (core_taken_by k t w (record c { waiting = ws }))
-  takes_by kind.MoveRelative None w ws c is h g =
+  takes_in : (g : Goal) (t : Option ℤ) (w : Wanted) (ws : List Wanted) (c : Core) →
+      (profile_of w.kind).goal ≡ g → IsQueued s n w → AllByRecursion (IsQueued s n) ws →
+      AreIn (core_taken_in g t w (record c { waiting = ws }))
+  takes_in (FromBefore base) None w ws c is h g =
       by_if AreIn _ _ _ (failed 106 _)
       (begun (with_target (Some (c.axis.setpoint +ℤ position_of w)) w) ws c.axis
-      (fixed (c.axis.setpoint +ℤ position_of w) w h.order is) g (waits_not w.kind w.owner h.waits))
-  takes_by kind.MoveRelative (Some t) w ws c is h g =
+      (fixed (c.axis.setpoint +ℤ position_of w) w h.order (ap is_relative_in is)) g (waits_not w.kind w.owner h.waits))
+  takes_in (FromBefore base) (Some t) w ws c is h g =
       begun w ws c.axis h.order g (waits_not w.kind w.owner h.waits)
-  takes_by _ t w ws c is h g = begun w ws c.axis h.order g (waits_not w.kind w.owner h.waits)
+  takes_in _ t w ws c is h g = begun w ws c.axis h.order g (waits_not w.kind w.owner h.waits)
 
   takes : (ws : List Wanted) (c : Core) → c.axis.active ≡ None → IsHeldByStop s c.axis.hold →
       AllByRecursion (IsQueued s n) ws → c.waiting ≡ ws → AreIn (core_after_take_over ws c)
@@ -361,7 +361,7 @@ module _ (s : Setup) (n : ℕ) where
     waiting = subst (AllByRecursion (IsQueued s n)) (sym is) tt;
     hold = hold;
   }
-  takes (w ∷ ws) c none hold h is = takes_by w.kind w.target w ws c refl h.0 h.1
+  takes (w ∷ ws) c none hold h is = takes_in (profile_of w.kind).goal w.target w ws c refl h.0 h.1
 
   ends : (f : Finish) (c : Core) → AreIn c → AreIn (core_after_end f c)
   unfolding core_after_end
@@ -385,34 +385,11 @@ module _ (s : Setup) (n : ℕ) where
     hold = λ k b e at. h.hold k b (sym hold ∙ e) at;
   }
 
-  progresses : (x : BlockKind) (t : ℤ) (p : Progress) (c : Core) → AreIn c →
-      Steps c (axis_after_progress x t p c.axis)
-  progresses kind.Home t p c h = as_it_is c _ refl refl h
-  progresses _ t p c h = as_it_is c _ refl refl h
-
-  by_result : (x : BlockKind) (t : ℤ) (r : Result Progress ℕ) (c : Core) → AreIn c →
-      Steps c (advance_by_progress x t c.axis r).axis
-  by_result x t (Ok p) c h = progresses x t p c h
-  by_result x t (Err e) c h = as_it_is c _ refl refl h
-
-  by_active : (active next : Option Wanted) (look : AxisLook) (c : Core) → AreIn c →
-      Steps c (advance_by_command active next look c.axis).axis
-  by_active None next look c h = as_it_is c _ refl refl h
-  by_active (Some w) next look c h =
-      by_result w.kind (target_of w) (progress_in_cycle c.axis w next look) c h
-
-  by_place : (o : Option ℤ) (next : Option Wanted) (look : AxisLook) (c : Core) → AreIn c →
-      Steps c (advance_without_error o next look c.axis).axis
-  by_place None next look c h = by_active c.axis.active next look c h
-  by_place (Some place) next look c h =
-      by_if (Steps c) look.path_ends _ _ (as_it_is c _ refl refl h) (as_it_is c _ refl refl h)
-
-  advances : (next : Option Wanted) (look : AxisLook) (c : Core) → AreIn c →
-      Steps c (advance_in_cycle next look c.axis).axis
-  unfolding advance_in_cycle
-  advances next look c h =
-      by_if (λ (x : Advance). Steps c x.axis) (is_error_stop c.axis.state) _ _
-      (as_it_is c _ refl refl h) (by_place (place_on_path c.axis look) next look c h)
+  advances : (look : AxisLook) (c : Core) → AreIn c →
+      Steps c (advance_in_cycle (slice_get c.waiting 0) look c.axis).axis
+  advances look c h =
+      let same = advance_stays (slice_get c.waiting 0) look c in
+      as_it_is c _ (ap (λ (x : CommandState). x.active) same) (ap (λ (x : CommandState). x.hold) same) h
 
   -- Stopping may be left, and a Reset be done
   stops : (look : AxisLook) (c : Core) → AreIn c → Steps c (axis_after_stop look c.axis)
@@ -431,7 +408,7 @@ module _ (s : Setup) (n : ℕ) where
       let next = slice_get c.waiting 0 in
       let step = advance_in_cycle next look c.axis in
       let after = core_after_advance look c in
-      stops look after (ends_by step.ending (record c { axis = step.axis }) (advances next look c h))
+      stops look after (ends_by step.ending (record c { axis = step.axis }) (advances look c h))
 
   steps : (look : AxisLook) (driven : Bool) (c : Core) → AreIn c →
       AreIn (core_after_step look driven c)

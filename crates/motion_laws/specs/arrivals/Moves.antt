@@ -57,17 +57,27 @@ IsTurnedWithin most course n turned =
 abbrev pub IsMoveEndedWithin : ℕ → Option Turned → Type 0
 IsMoveEndedWithin most ended = IsWithin most (λ (t : Turn) (m : Machine). Unit {0}) ended
 
+-- a move, a Halt or a Stop that begins with an entry on an axis is turned within its bound, where
+-- the entries after it have this many cycles
+abbrev pub TurnsInTime : Setup → Machine → Entry → List Entry → ℕ → Type 0
+TurnsInTime s m e more n = (w : Wanted) (course : Course) →
+    (axis_fate s m e n).begins ≡ Some w → course_of w ≡ Some course →
+    bound_of course (axis_at (after s m e) n) ≤ cycles_of more →
+    IsTurnedWithin (bound_of course (axis_at (after s m e) n)) course n
+    (turned_in s n (after s m e) more)
+
+-- so it is of each entry of a history and each axis
+abbrev pub MovesTurnInTime : Setup → List Entry → Type 0
+MovesTurnInTime s es = (made more : List Entry) (e : Entry) (n : ℕ) → es ≡ made ++ e ∷ more →
+    n < length s.axes → TurnsInTime s (machine_after s made) e more n
+
 -- what an entry makes of the active command of an axis, with the entries after it
 pub record KeepsMotion (s : Setup) (m : Machine) (e : Entry) (more : List Entry) (n : ℕ)
     : Type 0 where
   -- how it ends and which one begins is what the axis shows
   pub fate : IsFate (axis_fate s m e n) (axis_at m n).active (axis_at (after s m e) n).active
-  -- a move, a Halt or a Stop that begins is turned within its bound, where there are this many
-  -- cycles
-  pub in_time : (w : Wanted) (course : Course) → (axis_fate s m e n).begins ≡ Some w →
-      course_of w ≡ Some course → bound_of course (axis_at (after s m e) n) ≤ cycles_of more →
-      IsTurnedWithin (bound_of course (axis_at (after s m e) n)) course n
-      (turned_in s n (after s m e) more)
+  -- what begins is turned in time
+  pub in_time : TurnsInTime s m e more n
   -- a move ends Done at its target alone, or, blended, by a step that crosses it
   pub done : (w : Wanted) → (axis_at m n).active ≡ Some w → is_move w.kind ≡ true →
       (axis_fate s m e n).ends ≡ Some finish.Done →
@@ -88,7 +98,7 @@ pub record KeepsMotion (s : Setup) (m : Machine) (e : Entry) (more : List Entry)
       IsBlended w second c.axis c.waiting → cycles_of_blend w c.axis ≤ cycles_of more →
       IsMoveEndedWithin (cycles_of_blend w c.axis) (move_end_in s n (after s m e) more)
 
--- so it is of each entry of a history and each axis
+-- so it is too of each entry of a history and each axis
 abbrev pub MovesArrive : Setup → List Entry → Type 0
 MovesArrive s es = (made more : List Entry) (e : Entry) (n : ℕ) → es ≡ made ++ e ∷ more →
     n < length s.axes → KeepsMotion s (machine_after s made) e more n

@@ -21,6 +21,7 @@ use Rattle.plc_types.specs.declared.kind.BlockKind.TheVariants as kind
 use Rattle.command_pool.specs.declared.wanted.Wanted.{Wanted}
 use Rattle.follow_plan.specs.Gear.{gear_toward_of}
 use Rattle.kin_core.specs.Admissible.{IsSafe}
+use Rattle.motion_laws.specs.Orders.{is_relative}
 
 -- a drive is in Fault, or reacts to one. IEC 61800-7-201, object 6041h
 abbrev pub ReportsFault : DriveIn → Type 0
@@ -93,15 +94,15 @@ pub record LosesCam (a : Axis) (look : AxisLook) : Type 0 where
   pub synchronized : a.reached ≡ true
   pub far : IsUnsafe a (look.cam -ℤ a.setpoint)
 
--- the active command ends, and the first that waits is a MoveRelative that lays down its target
--- where the axis then stands, which lies outside the limits. MC_MoveRelative, BufferMode
+-- the active command ends, and the first that waits is relative and lays down its target where the
+-- axis then stands, which lies outside the limits. MC_MoveRelative, MC_MoveAdditive, BufferMode
 pub record EndsOutside (look : AxisLook) (c : Core) (place : ℤ) : Type 0 where
   pub ends :
       ((cycle_fate look c).ends ≡ Some finish.Done)
       ⊎ ((cycle_fate look c).ends ≡ Some finish.Aborted)
   pub next : Wanted
   pub waits : slice_get c.waiting 0 ≡ Some next
-  pub of_kind : next.kind ≡ kind.MoveRelative
+  pub of_kind : is_relative next.kind ≡ true
   pub unset : next.target ≡ None
   pub outside : IsBetween c.axis.limits.lo (place +ℤ position_of next) c.axis.limits.hi → ⊥
 

@@ -6,7 +6,7 @@ ghost use Rattle.command_pool.specs.Rates.{AreRates};
 use super::{expect_rates, rates};
 use blend_plan::{blend_step, blend_step_counted};
 use command_pool::Rates;
-use ramp_root::Steps;
+use ramp_root::Counter;
 use std::marker::Brand;
 use std::process::Abort;
 use std::sync::ledger::{Blank, Ledger};
@@ -59,7 +59,7 @@ fn counted<L: Ledger>(blank: Blank, first: &Rates, second: &Rates) -> (i64, bool
     requires first_rates { AreRates first.now }
     requires second_rates { AreRates second.now }
 {
-    let mut steps = Steps::<L>::open(blank);
+    let mut steps = Counter::<L>::open(blank);
     blend_step_counted(2, 22, 6, first, second, 6, &mut steps)
 }
 

@@ -5,7 +5,7 @@ ghost use Rattle.command_pool.specs.Rates.{AreRates};
 
 use super::{RATES, expect_rates, rates};
 use command_pool::Rates;
-use ramp_root::Steps;
+use ramp_root::Counter;
 use std::marker::Brand;
 use std::sync::ledger::{Blank, Ledger};
 use trapezoid_plan::{cycles_bound, move_step_counted};
@@ -41,7 +41,7 @@ fn counted<L: Ledger>(blank: Blank, rates: &Rates) -> i64
     requires some { 0 < blank.parts }
     requires rates { AreRates rates.now }
 {
-    let mut steps = Steps::<L>::open(blank);
+    let mut steps = Counter::<L>::open(blank);
     move_step_counted(4, 6, rates, &mut steps)
 }
 

@@ -2,7 +2,7 @@
 
 ghost use Rattle.std.specs.Prelude.{◌≡◌, ◌<◌};
 
-use ramp_root::{Steps, fits, greatest_count, greatest_count_counted, root};
+use ramp_root::{Counter, fits, greatest_count, greatest_count_counted, root};
 use std::marker::Brand;
 use std::sync::ledger::{Blank, Ledger};
 
@@ -43,7 +43,7 @@ fn counted<L: Ledger>(blank: Blank) -> (bool, bool, u64)
     requires parts { blank.parts ≡ L.parts }
     requires some { 0 < blank.parts }
 {
-    let mut steps = Steps::<L>::open(blank);
+    let mut steps = Counter::<L>::open(blank);
     let two = fits(2, 10, 4, 1, &mut steps);
     let three = fits(3, 10, 4, 1, &mut steps);
     (two, three, greatest_count_counted(10, 4, 1, &mut steps))

@@ -97,7 +97,7 @@ group_state-only field s h = same-bytes _ _ (find-only (λ x. bytes_eq (group_st
 
 pub kind-only : (field : List ℕ) (k : BlockKind) → kind_named field ≡ Some k → kind_name k ≡ field
 unfolding kind_named
-kind-only field k h = same-bytes _ _ (find-only (λ x. bytes_eq (kind_name x) field) (kind.Power ∷ kind.Reset ∷ kind.Home ∷ kind.Stop ∷ kind.Halt ∷ kind.MoveAbsolute ∷ kind.MoveRelative ∷ kind.MoveVelocity ∷ kind.GearIn ∷ kind.GearOut ∷ kind.CamIn ∷ kind.CamOut ∷ kind.GroupEnable ∷ kind.GroupDisable ∷ kind.GroupReset ∷ kind.GroupStop ∷ kind.GroupHalt ∷ kind.MoveLinearAbsolute ∷ kind.MoveCircularAbsolute ∷ []) k h)
+kind-only field k h = same-bytes _ _ (find-only (λ x. bytes_eq (kind_name x) field) (kind.Power ∷ kind.Reset ∷ kind.Home ∷ kind.Stop ∷ kind.Halt ∷ kind.MoveAbsolute ∷ kind.MoveRelative ∷ kind.MoveVelocity ∷ kind.GearIn ∷ kind.GearOut ∷ kind.CamIn ∷ kind.CamOut ∷ kind.GroupEnable ∷ kind.GroupDisable ∷ kind.GroupReset ∷ kind.GroupStop ∷ kind.GroupHalt ∷ kind.MoveLinearAbsolute ∷ kind.MoveCircularAbsolute ∷ kind.MoveAdditive ∷ []) k h)
 
 pub mode-only : (field : List ℕ) (m : BufferMode) → mode_named field ≡ Some m → mode_name m ≡ field
 unfolding mode_named

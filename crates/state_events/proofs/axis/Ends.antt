@@ -12,14 +12,14 @@ use Rattle.buffer_modes.specs.Queue.{active_note}
 use Rattle.command_pool.specs.declared.ending.Finish.{Finish}
 use Rattle.command_pool.specs.declared.ending.Finish.TheVariants as finish
 use Rattle.plc_types.specs.declared.kind.BlockKind.{BlockKind}
-use Rattle.plc_types.specs.declared.kind.BlockKind.TheVariants as kind
 use Rattle.command_pool.specs.declared.notes.Note.{Note}
 use Rattle.command_pool.specs.declared.wanted.Wanted.{Wanted}
-use Rattle.axis_core.specs.Cores.{Core, MayBegin, MayTakeOver, axis_under, axis_under_by, core_after_end, core_after_ending, core_after_error, next_by, state_after_last, core_after_take_over, core_taken_by}
-use Rattle.axis_core.specs.Cycles.{Advance, advance_by_command, advance_by_progress, advance_in_cycle, advance_without_error, axis_after_braking, axis_after_progress, progress_in_cycle}
+use Rattle.axis_core.specs.Cores.{Core, MayBegin, MayTakeOver, axis_under, axis_under_by, core_after_end, core_after_ending, core_after_error, next_by, state_after_last, core_after_take_over, core_taken_in}
+use Rattle.axis_core.specs.Cycles.{Advance, advance_by_command, advance_by_progress, advance_in_cycle, advance_without_error, axis_after_braking, progress_in_cycle}
 use Rattle.state_events.specs.Axis.{Lead, active_by, event_where, events_by, fate_events, giving_events, last_events}
 use Rattle.axis_core.specs.Kinds.{event_of}
-use Rattle.axis_core.specs.Fates.{ending_fate, is_blended, taker_by, taker_of}
+use Rattle.axis_core.specs.Profiles.{profile_of}
+use Rattle.axis_core.specs.Fates.{ending_fate, is_blended, taker_in, taker_of}
 use Rattle.motion_numbers.specs.Ranges.{is_outside}
 use Rattle.axis_state.specs.States.{is_error_stop, is_stopping, is_synchronized}
 use Rattle.axis_core.specs.Steps.{axis_after_step}
@@ -27,6 +27,8 @@ use Rattle.axis_core.specs.blocks.Moves.{target_of, position_of, with_target}
 use Rattle.axis_core.specs.blocks.Path.{is_on_path, axis_after_path, place_on_path}
 use Rattle.axis_core.specs.declared.axis.Axis.{Axis}
 use Rattle.axis_core.specs.declared.look.AxisLook.{AxisLook}
+use Rattle.axis_core.specs.declared.profile.Goal.{Goal}
+use Rattle.axis_core.specs.declared.profile.Goal.TheVariants.{FromBefore}
 use Rattle.axis_core.specs.declared.progress.Progress.{Progress}
 use Rattle.axis_core.specs.blocks.Halts.{is_at_rest, leaves_stopping}
 use Rattle.buffer_modes.specs.Owners.{is_released}
@@ -104,17 +106,17 @@ taken-from false look w ws target c s h = begun look (with_target (Some target) 
 abbrev idle : Core → List Wanted → List Note → Core
 idle c ws notes = record c { axis = record c.axis { active = None; reached = false }; waiting = ws; notes = notes }
 
-taken-by : (look : AxisLook) (k : BlockKind) (t : Option ℤ) (w : Wanted) (ws : List Wanted) (notes : List Note) (c : Core) → is_error_stop c.axis.state ≡ false → MayBegin w.kind c.axis.state →
-    Becomes look (seen c.axis) (giving_events (taker_by k t w c.axis) (w ∷ ws) c.axis.state) (taker_by k t w c.axis) (core_taken_by k t w (idle c ws notes)).axis
-taken-by look kind.MoveRelative None w ws notes c s h =
+taken-by : (look : AxisLook) (g : Goal) (t : Option ℤ) (w : Wanted) (ws : List Wanted) (notes : List Note) (c : Core) → is_error_stop c.axis.state ≡ false → MayBegin w.kind c.axis.state →
+    Becomes look (seen c.axis) (giving_events (taker_in g t w c.axis) (w ∷ ws) c.axis.state) (taker_in g t w c.axis) (core_taken_in g t w (idle c ws notes)).axis
+taken-by look (FromBefore base) None w ws notes c s h =
     taken-from (is_outside c.axis.limits.lo (c.axis.setpoint +ℤ position_of w) c.axis.limits.hi) look w ws (c.axis.setpoint +ℤ position_of w) (idle c ws notes) s h
-taken-by look kind.MoveRelative (Some t) w ws notes c s h = begun look w (idle c ws notes).axis h
+taken-by look (FromBefore base) (Some t) w ws notes c s h = begun look w (idle c ws notes).axis h
 taken-by look _ t w ws notes c s h = begun look w (idle c ws notes).axis h
 
 taken : (look : AxisLook) (ws : List Wanted) (notes : List Note) (c : Core) → is_error_stop c.axis.state ≡ false → MayTakeOver c.axis.state ws →
     Becomes look (seen c.axis) (giving_events (taker_of ws c.axis) ws c.axis.state) (taker_of ws c.axis) (core_after_take_over ws (idle c ws notes)).axis
 taken look [] notes c s h = record { leads = settled c.axis.state; active = refl; test = refl; tail = refl }
-taken look (w ∷ ws) notes c s h = taken-by look w.kind w.target w ws notes c s h.0
+taken look (w ∷ ws) notes c s h = taken-by look (profile_of w.kind).goal w.target w ws notes c s h.0
 
 ended : (look : AxisLook) (f : Finish) (c : Core) → is_error_stop c.axis.state ≡ false → MayTakeOver c.axis.state c.waiting →
     Becomes look (seen c.axis) (giving_events (taker_of c.waiting c.axis) c.waiting c.axis.state) (taker_of c.waiting c.axis) (core_after_end f c).axis
@@ -133,12 +135,8 @@ ended-by look blends (Some finish.Aborted) c s h = ended look finish.Aborted c s
 abbrev with_place : Axis → Axis → Axis
 with_place x a = record a { previous = x.previous; setpoint = x.setpoint; offset = x.offset; reached = x.reached }
 
-stepped-on : (k : BlockKind) (t : ℤ) (p : Progress) (a : Axis) → axis_after_progress k t p a ≡ with_place (axis_after_progress k t p a) a
-stepped-on kind.Home t p a = refl
-stepped-on _ t p a = refl
-
 stepped-made : (k : BlockKind) (t : ℤ) (a : Axis) (made : Result Progress ℕ) → (let x = (advance_by_progress k t a made).axis in x ≡ with_place x a)
-stepped-made k t a (Ok p) = stepped-on k t p a
+stepped-made k t a (Ok p) = refl
 stepped-made k t a (Err n) = refl
 
 stepped : (o next : Option Wanted) (look : AxisLook) (a : Axis) → (let x = (advance_by_command o next look a).axis in x ≡ with_place x a)

@@ -12,15 +12,16 @@ use Rattle.axis_core.specs.Cycles.{Advance, advance_in_cycle, advance_without_er
 use Rattle.axis_core.specs.Drives.{answer_error_of, has_fault, is_driven}
 use Rattle.axis_core.specs.Fates.{command_fate, cycle_fate, ending_fate, is_blended, moved_fate}
 use Rattle.axis_core.specs.Kinds.{event_of}
+use Rattle.axis_core.specs.Profiles.{profile_of}
 use Rattle.axis_core.specs.Refusals.{Asked}
 use Rattle.axis_core.specs.blocks.Path.{place_on_path}
 use Rattle.axis_core.specs.declared.axis.Axis.{Axis}
 use Rattle.axis_core.specs.declared.look.AxisLook.{AxisLook}
+use Rattle.axis_core.specs.declared.profile.Entry.{Entry}
+use Rattle.axis_core.specs.declared.profile.Entry.TheVariants.{Leaves}
 use Rattle.buffer_modes.specs.Fates.{Fate, goes_on, replaced}
 use Rattle.command_pool.specs.declared.ending.Finish.{Finish}
 use Rattle.command_pool.specs.declared.ending.Finish.TheVariants as finish
-use Rattle.plc_types.specs.declared.kind.BlockKind.{BlockKind}
-use Rattle.plc_types.specs.declared.kind.BlockKind.TheVariants as kind
 use Rattle.command_pool.specs.declared.wanted.Wanted.{Wanted}
 use Rattle.group_core.proofs.KeptCalls.{by-if}
 use Rattle.state_events.specs.Axis.{begin_events, command_events, cycle_events, driven_events, ending_events, event_where, events_by, giving_events, going_events, last_events, path_events, power_events, release_events, reset_events, reset_row, rests_in, run_events, state_by, step_events}
@@ -34,17 +35,15 @@ by_few None = omega arith
 by_few (Some e) = omega arith
 
 -- a call
-begin_few : (k : BlockKind) (o : Option Wanted) → length (begin_events k o) ≤ 1
-begin_few kind.GearOut None = omega arith
-begin_few kind.GearOut (Some w) = omega arith
-begin_few kind.CamOut None = omega arith
-begin_few kind.CamOut (Some w) = omega arith
+begin_few : (x : Entry) (o : Option Wanted) → length (begin_events x o) ≤ 1
+begin_few Leaves None = omega arith
+begin_few Leaves (Some w) = omega arith
 begin_few _ None = omega arith
 begin_few _ (Some w) = by_few (event_of w.kind)
 
 pub command_few : (q : Asked) (c : Core) → length (command_events q c) ≤ 1
 unfolding command_events
-command_few q c = begin_few q.wanted.kind (command_fate q c).begins
+command_few q c = begin_few (profile_of q.wanted.kind).entry (command_fate q c).begins
 
 pub power_few : (enable : Bool) (s : AxisState) → length (power_events enable s) ≤ 1
 power_few enable s = where_few (not enable && not (is_error_stop s)) event.PowerOff

@@ -2,22 +2,24 @@
 -- for: traces_are_read_back
 use Rattle.std.specs.Prelude.{◌≡◌, refl, ℕ, zero, suc, ◌+◌, ◌-◌, ◌^◌, ◌<◌, ◌≤◌, Bool, true, false, nat_lt, if◌then◌else◌, ℤ, pos, unsigned_abs, Some, Ok, List, [], ◌∷◌, ◌++◌, decimal, drop, length, map, replicate, slice_get, slice_index_or, take}
 use Rattle.std.specs.Fmt.{signed_decimal}
-use Rattle.std.specs.List.{AllByRecursion, join_with_byte}
+use Rattle.std.specs.List.{AllByRecursion, join_with_byte, list_all}
 use Rattle.std.proofs.Common.{◌∙◌, sym, ap, arith, inl, inr}
 use Rattle.std.proofs.lemmas.Bool.{and_parts, cases_Bool, ltb-true}
 use Rattle.std.proofs.lemmas.Bool.Decides.{Decides-eqb}
 use Rattle.std.proofs.lemmas.List.{length-drop, length-take-le, take-append-drop}
 use Rattle.plc_types.specs.Kinds.{acts_on_group}
 use Rattle.plc_types.specs.declared.kind.BlockKind.{BlockKind}
-use Rattle.plc_types.specs.declared.kind.BlockKind.TheVariants.{GearIn, CamIn}
+use Rattle.plc_types.specs.declared.kind.BlockKind.TheVariants.{MoveAbsolute, GearIn, CamIn}
 use Rattle.plc_types.specs.declared.kind.BufferMode.{BufferMode}
 use Rattle.plc_types.specs.declared.kind.BufferMode.TheVariants.{Aborting}
 use Rattle.plc_types.specs.Inputs.{AreInputs, IsTaken, takes}
 use Rattle.plc_types.specs.KindNames.{mode_name, mode_named}
+use Rattle.plc_types.specs.Names.{is_name_byte}
 use Rattle.plc_types.specs.declared.inputs.Input.TheVariants.{Position, Velocity, Acceleration, Deceleration, Jerk, Mode}
 use Rattle.plc_types.specs.declared.inputs.Inputs.{Inputs}
 use Rattle.plc_types.specs.declared.outputs.Outputs.{Outputs}
 use Rattle.line_text.specs.Reading.{each_of}
+use Rattle.line_text.specs.Texts.{says}
 use Rattle.machine_words.specs.Names.{axis_at, axis_named, block_at, task_at}
 use Rattle.machine_words.specs.Positions.{no_positions, positions_from}
 use Rattle.motion_history.specs.Calls.{axes_of}
@@ -25,23 +27,27 @@ use Rattle.motion_history.specs.Members.{IsGroup}
 use Rattle.motion_history.specs.Ranges.{is_block}
 use Rattle.motion_history.specs.Setup.{Setup}
 use Rattle.motion_history.specs.declared.config.BlockDef.{BlockDef}
+use Rattle.motion_history.specs.declared.refused.TraceVersion.{TraceVersion}
+use Rattle.motion_history.specs.declared.refused.TraceVersion.TheVariants.{One, Two, Three}
 use Rattle.motion_history.specs.declared.sizes.TheConstants.{MOST_MEMBERS}
 use Rattle.motion_numbers.specs.declared.TheConstants.{MOST_NUMBER}
 use Rattle.trace_columns.specs.Fields.{flag_text, outputs_text}
 use Rattle.trace_text.specs.reading.Events.{call_by, call_meaning, end_meaning, reply_of}
-use Rattle.trace_text.specs.reading.Inputs.{cam_of, follow_of, gear_of, halves, input_of, inputs_of, joined_positions, last_of, mode_of, no_master, positions_of, rates_of}
+use Rattle.trace_text.specs.reading.Inputs.{cam_of, follow_of, gear_of, halves, input_of, inputs_of, joined_positions, last_of, mode_meaning, mode_of, no_master, positions_of, rates_of}
 use Rattle.trace_text.specs.reading.Rules.{are_empty, unused, value}
 use Rattle.trace_text.specs.reading.Items.{number, parts_of}
-use Rattle.trace_text.specs.Records.{axis_name, block_call_fields, call_fields, call_fields_of, end_fields, follow_text, number_text, padded, positions_text, taken_text}
+use Rattle.trace_text.specs.Records.{axis_name, block_call_fields, call_fields, call_fields_of, end_fields, follow_text, mode_text, number_text, padded, positions_text, taken_text}
+use Rattle.trace_text.specs.Words.{shortest}
 use Rattle.trace_text.specs.Writable.{IsMachine, IsWritableCall}
 use Rattle.trace_text.specs.declared.reading.inputs.Followed.{Followed}
 use Rattle.trace_text.specs.declared.found.FoundEntry.TheVariants as found
 use Rattle.trace_text.specs.reading.RuleNumbers.{no_value}
+use Rattle.line_text.proofs.Texts.{bytes-same}
 use Rattle.motion_history.proofs.DistinctLemmas.{each-from_list_all, each-weaker}
 use Rattle.trace_text.proofs.back.FieldsBack.{Given, number-back}
 use Rattle.trace_text.proofs.back.ItemsBack.{axis-at, axis-without, block-at, item-of, task-at, there-at}
 use Rattle.trace_text.proofs.back.PartsBack.{each-back, halves-back, stands-at, texts-back}
-use Rattle.trace_text.proofs.back.Plain.{signed-without}
+use Rattle.trace_text.proofs.back.Plain.{bytes-without, signed-without}
 
 -- ---- lists whose items are all 0
 
@@ -144,11 +150,32 @@ rates-back g b axes i is =
 
 -- ---- the mode
 
-mode-by : Given → (taken : Bool) (mode : BufferMode) → (taken ≡ false → mode ≡ Aborting) →
-    (if taken then value (mode_named (taken_text taken (mode_name mode))) else unused (taken_text taken (mode_name mode)) Aborting) ≡ Ok mode
+-- a mode's name has letters alone
+mode-letters : (mode : BufferMode) → list_all is_name_byte (mode_name mode) ≡ true
+unfolding mode_name
+mode-letters Aborting = refl
+mode-letters _ = refl
+
+directed-back : Given → (mode : BufferMode) → mode_meaning Three MoveAbsolute (mode_text Three MoveAbsolute mode) ≡ Ok mode
+unfolding mode_meaning mode_text halves says
+directed-back g mode = rw (halves-back (mode_name mode) shortest (bytes-without 58 refl (mode_name mode) (mode-letters mode)), bytes-same shortest, g.named.modes mode) refl
+
+-- in versions without directions
+named-back : Given → (mode : BufferMode) → value (mode_named (mode_name mode)) ≡ Ok mode
+named-back g mode = rw (g.named.modes mode) refl
+
+mode-back : Given → (v : TraceVersion) (k : BlockKind) (mode : BufferMode) → mode_meaning v k (mode_text v k mode) ≡ Ok mode
+unfolding mode_meaning mode_text
+mode-back g One k mode = named-back g mode
+mode-back g Two k mode = named-back g mode
+mode-back g Three MoveAbsolute mode = directed-back g mode
+mode-back g Three _ mode = named-back g mode
+
+mode-by : Given → (v : TraceVersion) (k : BlockKind) (taken : Bool) (mode : BufferMode) → (taken ≡ false → mode ≡ Aborting) →
+    (if taken then mode_meaning v k (taken_text taken (mode_text v k mode)) else unused (taken_text taken (mode_text v k mode)) Aborting) ≡ Ok mode
 unfolding taken_text
-mode-by g true mode is = rw (g.named.modes mode) refl
-mode-by g false mode is = ap Ok (sym (is refl))
+mode-by g v k true mode is = mode-back g v k mode
+mode-by g v k false mode is = ap Ok (sym (is refl))
 
 -- ---- what an axis follows
 
@@ -191,48 +218,48 @@ follow-back g s m GearIn axes i is l t = gear-back g s m i l is.numerator.size i
 follow-back g s m CamIn axes i is l t = cam-back g s m i l t (is.numerator.left_out refl) (is.denominator.left_out refl)
 follow-back g s m _ axes i is l t = ap Ok (none-back i (is.master refl) (is.numerator.left_out refl) (is.denominator.left_out refl) (is.table refl))
 
-last-back : Given → (s : Setup) → IsMachine s → (kind : BlockKind) (axes : ℕ) (i : Inputs) → AreInputs kind axes i → i.master < length s.axes → i.table < 2 ^ 16 →
-    last_of s kind (taken_text (takes kind Mode) (mode_name i.mode) ∷ follow_text s kind i ∷ []) ≡ Ok (record { mode = i.mode; followed = followed i })
+last-back : Given → (v : TraceVersion) (s : Setup) → IsMachine s → (kind : BlockKind) (axes : ℕ) (i : Inputs) → AreInputs kind axes i → i.master < length s.axes → i.table < 2 ^ 16 →
+    last_of v s kind (taken_text (takes kind Mode) (mode_text v kind i.mode) ∷ follow_text s kind i ∷ []) ≡ Ok (record { mode = i.mode; followed = followed i })
 unfolding last_of mode_of
-last-back g s m kind axes i is l t =
-    rw (mode-by g (takes kind Mode) i.mode is.mode, follow-back g s m kind axes i is l t) refl
+last-back g v s m kind axes i is l t =
+    rw (mode-by g v kind (takes kind Mode) i.mode is.mode, follow-back g s m kind axes i is l t) refl
 
 -- ---- a whole call
 
-inputs-back : Given → (s : Setup) → IsMachine s → (k : ℕ) (b : BlockDef) → slice_get s.blocks k ≡ Some b → (i : Inputs) (o : Outputs) → IsWritableCall s k i o →
-    inputs_of s b (record {
+inputs-back : Given → (v : TraceVersion) (s : Setup) → IsMachine s → (k : ℕ) (b : BlockDef) → slice_get s.blocks k ≡ Some b → (i : Inputs) (o : Outputs) → IsWritableCall s k i o →
+    inputs_of v s b (record {
       execute = flag_text i.execute;
       positions = positions_text s b i.positions;
       rates = number_text b.kind Velocity i.velocity ∷ number_text b.kind Acceleration i.acceleration ∷ number_text b.kind Deceleration i.deceleration ∷ number_text b.kind Jerk i.jerk ∷ [];
-      last = taken_text (takes b.kind Mode) (mode_name i.mode) ∷ follow_text s b.kind i ∷ [];
+      last = taken_text (takes b.kind Mode) (mode_text v b.kind i.mode) ∷ follow_text s b.kind i ∷ [];
     }) ≡ Ok i
 unfolding inputs_of
-inputs-back g s m k b at i o w =
+inputs-back g v s m k b at i o w =
     let is = w.call.inputs b at in
     rw (
       g.back.flags i.execute,
       positions-back g s m k b at i is w.positions,
       rates-back g b.kind (axes_of s b) i is,
-      last-back g s m b.kind (axes_of s b) i is w.call.master w.table,
+      last-back g v s m b.kind (axes_of s b) i is w.call.master w.table,
     ) refl
 
 reply-back : Given → (o : Outputs) → o.error_id < 2 ^ 16 → reply_of (outputs_text o ∷ decimal o.error_id ∷ []) ≡ Ok o
 unfolding reply_of
 reply-back g o l = rw (g.back.unsigned 0 65535 o.error_id (omega (arith, l)) (omega arith) (omega (arith, l)), g.back.outputs o) refl
 
-pub call-there : Given → (s : Setup) → IsMachine s → (k : ℕ) (b : BlockDef) → slice_get s.blocks k ≡ Some b → (i : Inputs) (o : Outputs) → IsWritableCall s k i o →
-    call_meaning s (drop 1 (padded (block_call_fields s b i o))) ≡ Ok (found.Call k i o)
+pub call-there : Given → (v : TraceVersion) (s : Setup) → IsMachine s → (k : ℕ) (b : BlockDef) → slice_get s.blocks k ≡ Some b → (i : Inputs) (o : Outputs) → IsWritableCall s k i o →
+    call_meaning v s (drop 1 (padded (block_call_fields v s b i o))) ≡ Ok (found.Call k i o)
 unfolding call_meaning call_by block_at
-call-there g s m k b at i o w =
-    rw (block-at s m k b at, at, inputs-back g s m k b at i o w, reply-back g o w.error) refl
+call-there g v s m k b at i o w =
+    rw (block-at s m k b at, at, inputs-back g v s m k b at i o w, reply-back g o w.error) refl
 
 -- a call of a block
-pub call-back : Given → (s : Setup) → IsMachine s → (k : ℕ) (i : Inputs) (o : Outputs) → IsWritableCall s k i o →
-    call_meaning s (drop 1 (padded (call_fields s k i o))) ≡ Ok (found.Call k i o)
+pub call-back : Given → (v : TraceVersion) (s : Setup) → IsMachine s → (k : ℕ) (i : Inputs) (o : Outputs) → IsWritableCall s k i o →
+    call_meaning v s (drop 1 (padded (call_fields v s k i o))) ≡ Ok (found.Call k i o)
 unfolding call_fields_of
-call-back g s m k i o w =
+call-back g v s m k i o w =
     let b = there-at s.blocks k w.call.there in
-    rw b.at (call-there g s m k b.item b.at i o w)
+    rw b.at (call-there g v s m k b.item b.at i o w)
 
 -- the end of a task
 pub end-back : (s : Setup) → IsMachine s → (task : ℕ) → task < length s.tasks → end_meaning s (drop 1 (padded (end_fields s task))) ≡ Ok (found.End task)

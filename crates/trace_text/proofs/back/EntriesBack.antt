@@ -17,7 +17,7 @@ use Rattle.motion_history.specs.Entries.{Entry, call, cycle, end_of}
 use Rattle.motion_history.specs.Setup.{Setup}
 use Rattle.motion_history.specs.declared.config.BlockDef.{BlockDef}
 use Rattle.motion_history.specs.declared.refused.TraceVersion.{TraceVersion}
-use Rattle.motion_history.specs.declared.refused.TraceVersion.TheVariants.{One, Two}
+use Rattle.motion_history.specs.declared.refused.TraceVersion.TheVariants.{One, Two, Three}
 use Rattle.trace_text.specs.Found.{CycleFound}
 use Rattle.trace_text.specs.reading.Items.{whole}
 use Rattle.trace_text.specs.reading.Kinds.{is_here, kind_of, kind_text}
@@ -57,14 +57,14 @@ whole-is s m =
 -- ---- calls and ends
 
 call-at : Given → (v : TraceVersion) (c : Command) (last : Kind) (s : Setup) → IsMachine s → (st : Stage) → IsEntryStage st → (f : List FoundEntry) (k : ℕ) (b : BlockDef) (i : Inputs) (o : Outputs) → slice_get s.blocks k ≡ Some b → IsWritableCall s k i o →
-    meaning (standing v c last s st f []) (padded (block_call_fields s b i o)) ≡ Ok (standing v c last s stage.Entries (f ++ found.Call k i o ∷ []) [])
+    meaning (standing v c last s st f []) (padded (block_call_fields v s b i o)) ≡ Ok (standing v c last s stage.Entries (f ++ found.Call k i o ∷ []) [])
 unfolding meaning twelve_meaning later_meaning is_here fields_meaning kind_of kind_text
-call-at g v c last s m stage.Machine is f k b i o at w = rw (call-there g s m k b at i o w, whole-is s m) refl
-call-at g v c last s m stage.Entries is f k b i o at w = rw (call-there g s m k b at i o w, whole-is s m) refl
+call-at g v c last s m stage.Machine is f k b i o at w = rw (call-there g v s m k b at i o w, whole-is s m) refl
+call-at g v c last s m stage.Entries is f k b i o at w = rw (call-there g v s m k b at i o w, whole-is s m) refl
 call-at g v c last s m _ is f k b i o at w = absurd is
 
 call-read : Given → (v : TraceVersion) (c : Command) (last : Kind) (s : Setup) → IsMachine s → (st : Stage) → IsEntryStage st → (f : List FoundEntry) (k : ℕ) (i : Inputs) (o : Outputs) → IsWritableCall s k i o →
-    meaning (standing v c last s st f []) (padded (call_fields s k i o)) ≡ Ok (standing v c last s stage.Entries (f ++ found.Call k i o ∷ []) [])
+    meaning (standing v c last s st f []) (padded (call_fields v s k i o)) ≡ Ok (standing v c last s stage.Entries (f ++ found.Call k i o ∷ []) [])
 unfolding call_fields_of
 call-read g v c last s m st is f k i o w = let b = there-at s.blocks k w.call.there in rw b.at (call-at g v c last s m st is f k b.item i o b.at w)
 
@@ -122,10 +122,12 @@ get-at (z ∷ xs) x ys = get-at xs x ys
 no-places : (v : TraceVersion) → found_places v [] [] ≡ []
 no-places One = refl
 no-places Two = refl
+no-places Three = refl
 
 more-places : (v : TraceVersion) (d : AxisDef) (r : AxisRow) (ds : List AxisDef) (rs : List AxisRow) → found_places v (d ∷ ds) (r ∷ rs) ≡ option_to_list (found_place v d r) ++ found_places v ds rs
 more-places One d r ds rs = refl
 more-places Two d r ds rs = refl
+more-places Three d r ds rs = refl
 
 -- the rows of the axes that are left lead to those of all
 rows-lead : Given → (v : TraceVersion) (c : Command) (last : Kind) (s : Setup) (f : List FoundEntry) (n : ℕ) (ds first : List AxisDef) (xs before all : List AxisRow) (places every : List ℤ) →
@@ -207,7 +209,7 @@ cycle-lead g v c last s m st is f n rows groups w =
 entry-lead : Given → (v : TraceVersion) (c : Command) (last : Kind) (s : Setup) → IsMachine s → (st : Stage) → IsEntryStage st → (f : List FoundEntry) (e : Entry) → IsWritable s e →
     Leads (entry_records v s e) (standing v c last s st f []) (standing v c last s stage.Entries (f ++ found_entry v s e ∷ []) [])
 unfolding entry_records
-entry-lead g v c last s m st is f (call k i o) w = leads-one (call_fields s k i o) _ _ (call-read g v c last s m st is f k i o w)
+entry-lead g v c last s m st is f (call k i o) w = leads-one (call_fields v s k i o) _ _ (call-read g v c last s m st is f k i o w)
 entry-lead g v c last s m st is f (cycle n rows groups) w = cycle-lead g v c last s m st is f n rows groups w
 entry-lead g v c last s m st is f (end_of task) w = leads-one (end_fields s task) _ _ (end-read v c last s m st is f task w)
 

@@ -8,7 +8,7 @@ use Rattle.plc_types.specs.declared.axis.AxisRow.{AxisRow}
 use Rattle.plc_types.specs.declared.group.GroupRow.{GroupRow}
 use Rattle.motion_history.specs.Setup.{Setup}
 use Rattle.motion_history.specs.declared.refused.TraceVersion.{TraceVersion}
-use Rattle.motion_history.specs.declared.refused.TraceVersion.TheVariants.{One, Two}
+use Rattle.motion_history.specs.declared.refused.TraceVersion.TheVariants.{One, Two, Three}
 use Rattle.trace_columns.specs.Fields.{axis_state_text, flag_text, hex_text}
 use Rattle.plc_types.specs.declared.axis.AxisDef.{AxisDef}
 use Rattle.trace_columns.specs.ReadBack.{AreReadBack}
@@ -52,6 +52,7 @@ place-back : AreReadBack → (v : TraceVersion) (s : Setup) (n : ℕ) (d : AxisD
 unfolding place_meaning reported_text
 place-back back One s n d r there is = refl
 place-back back Two s n d r there is = rw (there, back.wide (reported_place d r) is) refl
+place-back back Three s n d r there is = rw (there, back.wide (reported_place d r) is) refl
 
 -- a row of an axis
 pub row-back : AreReadBack → (v : TraceVersion) (s : Setup) (n : ℕ) (d : AxisDef) (r : AxisRow) → slice_get s.axes n ≡ Some d → IsRow r → IsReported d r →

@@ -15,13 +15,13 @@ use Rattle.line_text.specs.Reading.{each_of}
 use Rattle.line_text.specs.Rules.{in_range}
 use Rattle.motion_history.specs.AxisRanges.{AreAxisRanges}
 use Rattle.motion_history.specs.Ranges.{is_axis}
+use Rattle.motion_history.specs.declared.refused.TraceVersion.{TraceVersion}
 use Rattle.motion_numbers.specs.declared.TheConstants.{MOST_NUMBER, MOST_PLACE}
 use Rattle.trace_columns.specs.Columns.{size_limited_of, point_of}
 use Rattle.trace_columns.specs.Fields.{flag_text}
 use Rattle.trace_columns.specs.ReadBack.{AreReadBack}
-use Rattle.trace_text.specs.reading.Items.{limits_of, number, parts_of, placed_of, point}
+use Rattle.trace_text.specs.reading.Items.{axis_end_meaning, limits_of, number, parts_of, placed_of, point}
 use Rattle.trace_text.specs.Records.{point_text, points_text}
-use Rattle.trace_text.specs.reading.Rules.{are_empty}
 use Rattle.trace_text.specs.reading.RuleNumbers.{item_refused}
 use Rattle.motion_history.proofs.DistinctLemmas.{each-append, each-weaker}
 use Rattle.trace_text.proofs.back.PartsBack.{each-back, halves-back, texts-back}
@@ -75,11 +75,11 @@ limits-back g d r =
       number-back g d.limits.dmax (omega (arith, ints, p, q, m)),
     ) refl
 
--- the increment of an axis, its start and whether it is ready, and two empty fields after them
-pub placed-back : Given → (d : AxisDef) → AreAxisRanges d → (behind : List (List ℕ)) → are_empty behind ≡ true →
-    placed_of (signed_decimal d.inc ∷ signed_decimal d.start ∷ flag_text d.ready ∷ behind) ≡ Ok (record { inc = d.inc; start = d.start; ready = d.ready })
+-- the increment of an axis, its start and whether it is ready, and the last fields after them
+pub placed-back : Given → (v : TraceVersion) (d : AxisDef) → AreAxisRanges d → (behind : List (List ℕ)) → axis_end_meaning v behind ≡ Ok tt →
+    placed_of v (signed_decimal d.inc ∷ signed_decimal d.start ∷ flag_text d.ready ∷ behind) ≡ Ok (record { inc = d.inc; start = d.start; ready = d.ready })
 unfolding placed_of
-placed-back g d r behind none =
+placed-back g v d r behind none =
     let a = r.least in
     let b = r.most in
     let l = r.limits.lo_in_range in

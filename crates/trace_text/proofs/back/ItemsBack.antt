@@ -1,10 +1,10 @@
 -- The items of a machine are read back, each after those before it.
 -- for: traces_are_read_back
-use Rattle.std.specs.Prelude.{◌≡◌, refl, ℕ, zero, suc, ◌+◌, ◌-◌, ◌<◌, ◌≤◌, true, false, if◌then◌else◌, nat_eq, nat_le, nat_lt, ℤ, Some, None, Ok, List, [], ◌∷◌, ◌++◌, drop, length, map, replicate, slice_get}
+use Rattle.std.specs.Prelude.{◌≡◌, refl, ℕ, zero, suc, ◌+◌, ◌-◌, ◌<◌, ◌≤◌, true, false, if◌then◌else◌, nat_eq, nat_le, nat_lt, ℤ, pos, Some, None, Ok, List, [], ◌∷◌, ◌++◌, drop, length, map, replicate, slice_get}
 use Rattle.std.specs.List.{AllByRecursion, IsDistinct, flat_map, position}
 use Rattle.std.specs.Fmt.{signed_decimal}
 use Rattle.std.specs.Str.{bytes_eq}
-use Rattle.std.proofs.Common.{◌∙◌, sym, ap, subst, arith, append_assoc, inl, inr}
+use Rattle.std.proofs.Common.{◌∙◌, sym, ap, subst, arith, lit≤, append_assoc, inl, inr}
 use Rattle.std.proofs.lemmas.Bool.{and_parts, cases_Bool, false_from_ne_true, leb-true, lt-ltb, ltb-true}
 use Rattle.std.proofs.lemmas.List.{append-nil, length-append, length-take-le, take-append-drop}
 use Rattle.std.proofs.lemmas.List.Elements.{recursion_from_All}
@@ -13,6 +13,7 @@ use Rattle.plc_types.specs.Names.{is_name, is_name_byte}
 use Rattle.plc_types.specs.declared.axis.AxisDef.{AxisDef}
 use Rattle.cam_table.specs.CamTable.{IsCamTable}
 use Rattle.plc_types.specs.Kinds.{acts_on_group}
+use Rattle.plc_types.specs.KindNames.{first_version}
 use Rattle.line_text.specs.Reading.{each_of}
 use Rattle.machine_words.specs.Names.{axis_at, axis_named, group_at, object_at, task_at}
 use Rattle.machine_words.specs.Tables.{table_added}
@@ -21,20 +22,21 @@ use Rattle.motion_history.specs.Faults.{are_free, axis_fault, block_fault, group
 use Rattle.motion_history.specs.Members.{IsGroup, group_of, members_of}
 use Rattle.motion_history.specs.Ranges.{has_block, is_axis, is_block}
 use Rattle.motion_history.specs.Setup.{Setup, names_of}
+use Rattle.motion_history.specs.Versions.{number_of}
 use Rattle.motion_history.specs.declared.config.BlockDef.{BlockDef}
 use Rattle.motion_history.specs.declared.config.GroupDef.{GroupDef}
 use Rattle.motion_history.specs.declared.refused.TraceVersion.{TraceVersion}
-use Rattle.motion_history.specs.declared.refused.TraceVersion.TheVariants.{One, Two}
+use Rattle.motion_history.specs.declared.refused.TraceVersion.TheVariants.{One, Two, Three}
 use Rattle.motion_history.specs.declared.sizes.TheConstants.{MOST_AXES, MOST_BLOCKS, MOST_GROUPS, MOST_MEMBERS, MOST_TABLES, MOST_TASKS}
 use Rattle.trace_columns.specs.Fields.{flag_text}
-use Rattle.trace_text.specs.reading.Items.{axis_added, axis_meaning, block_meaning, group_meaning, is_object, parts_of, table_meaning, task_meaning}
+use Rattle.trace_text.specs.reading.Items.{axis_added, axis_end_meaning, axis_meaning, block_meaning, group_meaning, is_object, kind_meaning, parts_of, table_meaning, task_meaning}
 use Rattle.trace_text.specs.Records.{axis_fields, axis_name, block_fields, group_fields, group_name, members_text, object_name, padded, table_fields, task_fields, task_name}
 use Rattle.trace_text.specs.reading.Rules.{are_empty}
-use Rattle.trace_text.specs.Trace.{CanHold}
+use Rattle.trace_text.specs.Trace.{CanHold, has_kinds}
 use Rattle.trace_text.specs.Writable.{IsMachine}
 use Rattle.trace_text.specs.reading.RuleNumbers.{no_value}
 use Rattle.motion_history.proofs.DistinctLemmas.{each-append, each-from_list_all, each-weaker}
-use Rattle.trace_text.proofs.back.FieldsBack.{Given, limits-back, placed-back, points-back}
+use Rattle.trace_text.proofs.back.FieldsBack.{Given, limits-back, number-back, placed-back, points-back}
 use Rattle.trace_text.proofs.back.NamesBack.{any-none, each-at, each-left, each-right, each-unmap, found-at, free-members, names-differ}
 use Rattle.trace_text.proofs.back.PartsBack.{each-back, stands-at, texts-back}
 use Rattle.trace_text.proofs.back.Plain.{IsWithout, name-without}
@@ -156,34 +158,36 @@ axis-free s m before d behind e =
       count-before s.axes before d behind MOST_AXES e m.setup.within.sizes.axes,
     ) refl
 
-axis-adds : Given → (s : Setup) → IsMachine s → (before : List AxisDef) (d : AxisDef) (behind : List AxisDef) → s.axes ≡ before ++ d ∷ behind →
-    (unused : List (List ℕ)) → are_empty unused ≡ true →
-    axis_added (at_axes s before) d.name
+axis-adds : Given → (v : TraceVersion) (s : Setup) → IsMachine s → (before : List AxisDef) (d : AxisDef) (behind : List AxisDef) → s.axes ≡ before ++ d ∷ behind →
+    (unused : List (List ℕ)) → axis_end_meaning v unused ≡ Ok tt →
+    axis_added v (at_axes s before) d.name
     (signed_decimal d.limits.lo ∷ signed_decimal d.limits.hi ∷ signed_decimal d.limits.vmax ∷ signed_decimal d.limits.amax ∷ signed_decimal d.limits.dmax ∷ [])
     (signed_decimal d.inc ∷ signed_decimal d.start ∷ flag_text d.ready ∷ unused) ≡
     Ok (at_axes s (before ++ d ∷ []))
 unfolding axis_added
-axis-adds g s m before d behind e unused none =
+axis-adds g v s m before d behind e unused none =
     let is : is_axis d ≡ true = item-of (λ a. is_axis a ≡ true) s.axes before d behind e (each-from_list_all is_axis s.axes m.setup.within.axes) in
     let r : AreAxisRanges d = g.ranges d is in
     rw (
       item-of _ s.axes before d behind e (axes-named s m),
       limits-back g d r,
-      placed-back g d r unused none,
+      placed-back g v d r unused none,
       axis-free s m before d behind e,
     ) refl
 
 pub axis-back : Given → (v : TraceVersion) (s : Setup) → IsMachine s → CanHold v s → (before : List AxisDef) (d : AxisDef) (behind : List AxisDef) →
     s.axes ≡ before ++ d ∷ behind → axis_meaning v (at_axes s before) (drop 1 (padded (axis_fields v d))) ≡ Ok (at_axes s (before ++ d ∷ []))
-unfolding axis_meaning are_empty
+unfolding axis_meaning axis_end_meaning are_empty
 axis-back g One s m can before d behind e =
-    let same : d.limits.dmax ≡ d.limits.amax = item-of (λ (a : AxisDef). a.limits.dmax ≡ a.limits.amax) s.axes before d behind e (recursion_from_All _ s.axes can) in
+    let same : d.limits.dmax ≡ d.limits.amax = item-of (λ (a : AxisDef). a.limits.dmax ≡ a.limits.amax) s.axes before d behind e (recursion_from_All _ s.axes (can.braking refl)) in
     let P : ℤ → Type 0 = λ z.
-    axis_added (at_axes s before) d.name
+    axis_added One (at_axes s before) d.name
     (signed_decimal d.limits.lo ∷ signed_decimal d.limits.hi ∷ signed_decimal d.limits.vmax ∷ signed_decimal d.limits.amax ∷ signed_decimal z ∷ [])
     (signed_decimal d.inc ∷ signed_decimal d.start ∷ flag_text d.ready ∷ [] ∷ [] ∷ [] ∷ []) ≡ Ok (at_axes s (before ++ d ∷ [])) in
-    subst P same (axis-adds g s m before d behind e ([] ∷ [] ∷ [] ∷ []) refl)
-axis-back g Two s m can before d behind e = axis-adds g s m before d behind e ([] ∷ [] ∷ []) refl
+    subst P same (axis-adds g One s m before d behind e ([] ∷ [] ∷ [] ∷ []) refl)
+axis-back g Two s m can before d behind e = axis-adds g Two s m before d behind e ([] ∷ [] ∷ []) refl
+axis-back g Three s m can before d behind e =
+    axis-adds g Three s m before d behind e (signed_decimal (pos 0) ∷ flag_text false ∷ []) (rw (number-back g (pos 0) (lit≤ tt), g.back.flags false) refl)
 
 -- ---- names of what is there
 
@@ -357,17 +361,22 @@ block-free s m before d behind e =
       count-before s.blocks before d behind MOST_BLOCKS e m.setup.within.sizes.blocks,
     ) refl
 
-pub block-back : Given → (s : Setup) → IsMachine s → (before : List BlockDef) (d : BlockDef) (behind : List BlockDef) → s.blocks ≡ before ++ d ∷ behind →
-    block_meaning (at_blocks s before) (drop 1 (padded (block_fields s d))) ≡ Ok (at_blocks s (before ++ d ∷ []))
-unfolding block_meaning are_empty task_at
-block-back g s m before d behind e =
+-- the version has each block's kind
+has-each : (v : TraceVersion) (s : Setup) → CanHold v s → AllByRecursion (λ (b : BlockDef). nat_le (first_version b.kind) (number_of v) ≡ true) s.blocks
+unfolding has_kinds
+has-each v s can = each-from_list_all (λ (b : BlockDef). nat_le (first_version b.kind) (number_of v)) s.blocks can.kinds
+
+pub block-back : Given → (v : TraceVersion) (s : Setup) → IsMachine s → CanHold v s → (before : List BlockDef) (d : BlockDef) (behind : List BlockDef) → s.blocks ≡ before ++ d ∷ behind →
+    block_meaning v (at_blocks s before) (drop 1 (padded (block_fields s d))) ≡ Ok (at_blocks s (before ++ d ∷ []))
+unfolding block_meaning kind_meaning are_empty task_at
+block-back g v s m can before d behind e =
     let is = item-of (λ (b : BlockDef). is_name b.name ≡ true) s.blocks before d behind e (blocks-named s m) in
     let there = block-is s m before d behind e in
     let parts = and_parts (nat_lt d.task (length s.tasks)) _ there in
     rw (
       is,
       task-at s m d.task (ltb-true d.task (length s.tasks) parts.0),
-      g.named.kinds d.kind,
+      g.named.versions (number_of v) d.kind (leb-true (first_version d.kind) (number_of v) (item-of _ s.blocks before d behind e (has-each v s can))),
       object-is s m before d parts.1,
       object-back s m before d parts.1,
       block-free s m before d behind e,

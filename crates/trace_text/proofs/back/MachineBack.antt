@@ -9,7 +9,7 @@ use Rattle.motion_history.specs.Setup.{Setup}
 use Rattle.motion_history.specs.declared.config.BlockDef.{BlockDef}
 use Rattle.motion_history.specs.declared.config.GroupDef.{GroupDef}
 use Rattle.motion_history.specs.declared.refused.TraceVersion.{TraceVersion}
-use Rattle.motion_history.specs.declared.refused.TraceVersion.TheVariants.{One, Two}
+use Rattle.motion_history.specs.declared.refused.TraceVersion.TheVariants.{One, Two, Three}
 use Rattle.motion_history.specs.declared.sizes.TheConstants.{MOST_CYCLES, MOST_ENTRIES}
 use Rattle.trace_text.specs.reading.Items.{room_meaning}
 use Rattle.trace_text.specs.reading.Kinds.{is_here, kind_of, kind_text, rank_of}
@@ -44,6 +44,7 @@ version-back : (v : TraceVersion) → version_of (version_text v) ≡ Some v
 unfolding version_of version_text says
 version-back One = refl
 version-back Two = refl
+version-back Three = refl
 
 command-back : (c : Command) → command_of (command_text c) ≡ Some c
 unfolding command_of command_text says
@@ -76,6 +77,7 @@ axis-read : Given → (v : TraceVersion) (c : Command) (s : Setup) → IsMachine
 unfolding meaning twelve_meaning later_meaning is_here fields_meaning kind_of kind_text
 axis-read g One c s m can j before x behind e h = rw (h, axis-back g One s m can before x behind e) refl
 axis-read g Two c s m can j before x behind e h = rw (h, axis-back g Two s m can before x behind e) refl
+axis-read g Three c s m can j before x behind e h = rw (h, axis-back g Three s m can before x behind e) refl
 
 group-read : (v : TraceVersion) (c : Command) (s : Setup) → IsMachine s → (j : Kind) (before : List GroupDef) (x : GroupDef) (behind : List GroupDef) →
     s.groups ≡ before ++ x ∷ behind → nat_le (rank_of j) 1 ≡ true → meaning (in_machine v c j (at_groups s before)) (padded (group_fields s x)) ≡ Ok (in_machine v c kind.Group (at_groups s (before ++ x ∷ [])))
@@ -92,10 +94,10 @@ task-read : (v : TraceVersion) (c : Command) (s : Setup) → IsMachine s → (j 
 unfolding meaning twelve_meaning later_meaning is_here fields_meaning kind_of kind_text
 task-read v c s m j before x behind e h = rw (h, task-back s m before x behind e) refl
 
-block-read : Given → (v : TraceVersion) (c : Command) (s : Setup) → IsMachine s → (j : Kind) (before : List BlockDef) (x : BlockDef) (behind : List BlockDef) →
+block-read : Given → (v : TraceVersion) (c : Command) (s : Setup) → IsMachine s → CanHold v s → (j : Kind) (before : List BlockDef) (x : BlockDef) (behind : List BlockDef) →
     s.blocks ≡ before ++ x ∷ behind → nat_le (rank_of j) 4 ≡ true → meaning (in_machine v c j (at_blocks s before)) (padded (block_fields s x)) ≡ Ok (in_machine v c kind.Block (at_blocks s (before ++ x ∷ [])))
 unfolding meaning twelve_meaning later_meaning is_here fields_meaning kind_of kind_text
-block-read g v c s m j before x behind e h = rw (h, block-back g s m before x behind e) refl
+block-read g v c s m can j before x behind e h = rw (h, block-back g v s m can before x behind e) refl
 
 later-rank : (j k : ℕ) (n : ℕ) → nat_le n j ≡ true → j ≤ k → nat_le n k ≡ true
 later-rank j k n h l = let here = leb-true n j h in le-leb n k (omega (arith, here, l))
@@ -107,7 +109,7 @@ items-read g v c s m can =
     let groups = items-lead (group_fields s) (λ k done. in_machine v c k (at_groups s done)) kind.Group s.groups refl (group-read v c s m) s.groups [] refl axes.last (later-rank 0 1 (rank_of axes.last) axes.rank (omega arith)) in
     let tables = items-lead table_fields (λ k done. in_machine v c k (at_tables s done)) kind.Table s.tables refl (table-read g v c s m) s.tables [] refl groups.last (later-rank 1 2 (rank_of groups.last) groups.rank (omega arith)) in
     let tasks = items-lead task_fields (λ k done. in_machine v c k (at_tasks s done)) kind.Task s.tasks refl (task-read v c s m) s.tasks [] refl tables.last (later-rank 2 3 (rank_of tables.last) tables.rank (omega arith)) in
-    let blocks = items-lead (block_fields s) (λ k done. in_machine v c k (at_blocks s done)) kind.Block s.blocks refl (block-read g v c s m) s.blocks [] refl tasks.last (later-rank 3 4 (rank_of tasks.last) tasks.rank (omega arith)) in
+    let blocks = items-lead (block_fields s) (λ k done. in_machine v c k (at_blocks s done)) kind.Block s.blocks refl (block-read g v c s m can) s.blocks [] refl tasks.last (later-rank 3 4 (rank_of tasks.last) tasks.rank (omega arith)) in
     let axis_rows = map (axis_fields v) s.axes in
     let group_rows = map (group_fields s) s.groups in
     let table_rows = map table_fields s.tables in

@@ -39,7 +39,7 @@ differs b mark other is = ne_eqb b mark (λ e. let here : is_name_byte mark ≡ 
 letter-byte : (b : ℕ) → is_letter b ≡ true → is_name_byte b ≡ true
 letter-byte b h = rw h refl
 
-bytes-without : (mark : ℕ) → is_name_byte mark ≡ false → (bs : List ℕ) → list_all is_name_byte bs ≡ true → IsWithout mark bs
+pub bytes-without : (mark : ℕ) → is_name_byte mark ≡ false → (bs : List ℕ) → list_all is_name_byte bs ≡ true → IsWithout mark bs
 bytes-without mark other [] h = tt
 bytes-without mark other (b ∷ bs) h =
     let parts = and_parts (is_name_byte b) (list_all is_name_byte bs) h in

@@ -58,15 +58,15 @@ header-plain rs = no-mark 107 _ refl
 header-written : RecordsAreReadBack → (rs : List (List (List ℕ))) → records_of (text_of (header_fields ∷ rs)) ≡ map padded (header_fields ∷ rs)
 header-written law rs = plain-records law (header_fields ∷ rs) (header-plain rs)
 
-call-plain : (s : Setup) (b : Option BlockDef) (i : Inputs) (o : Outputs) →
-    strip_bom (csv.text_of (map padded (call_fields_of s b i o ∷ []))) ≡ csv.text_of (map padded (call_fields_of s b i o ∷ []))
+call-plain : (v : TraceVersion) (s : Setup) (b : Option BlockDef) (i : Inputs) (o : Outputs) →
+    strip_bom (csv.text_of (map padded (call_fields_of v s b i o ∷ []))) ≡ csv.text_of (map padded (call_fields_of v s b i o ∷ []))
 unfolding csv.text_of call_fields_of
-call-plain s None i o = no-mark 99 _ refl
-call-plain s (Some b) i o = no-mark 99 _ refl
+call-plain v s None i o = no-mark 99 _ refl
+call-plain v s (Some b) i o = no-mark 99 _ refl
 
 entry-plain : (v : TraceVersion) (s : Setup) (e : Entry) → strip_bom (csv.text_of (map padded (entry_records v s e))) ≡ csv.text_of (map padded (entry_records v s e))
 unfolding csv.text_of entry_records
-entry-plain v s (call k i o) = call-plain s _ i o
+entry-plain v s (call k i o) = call-plain v s _ i o
 entry-plain v s (cycle n rows grows) = no-mark 99 _ refl
 entry-plain v s (end_of task) = no-mark 101 _ refl
 

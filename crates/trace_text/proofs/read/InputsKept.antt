@@ -82,9 +82,9 @@ input-taken k input text z h = elim (cases_Bool (takes k input)) [
       record { left_out = λ none. sym is; size = subst IsSmall is (lit≤ tt) }
 ]
 
-mode-left : (k : BlockKind) (text : List ℕ) (m : BufferMode) → mode_of k text ≡ Ok m → takes k Mode ≡ false → m ≡ Aborting
+mode-left : (v : TraceVersion) (k : BlockKind) (text : List ℕ) (m : BufferMode) → mode_of v k text ≡ Ok m → takes k Mode ≡ false → m ≡ Aborting
 unfolding mode_of
-mode-left k text m h fails =
+mode-left v k text m h fails =
     let e : unused text Aborting ≡ Ok m = rw fails at h in
     sym (unused-is text Aborting m e)
 
@@ -244,14 +244,14 @@ record IsLast (s : Setup) (k : BlockKind) (l : Last) : Type 0 where
   mode : takes k Mode ≡ false → l.mode ≡ Aborting
   followed : IsFollowed s k l.followed
 
-last-is : (s : Setup) (k : BlockKind) (fields : List (List ℕ)) (l : Last) → 1 ≤ length s.axes → last_of s k fields ≡ Ok l → IsLast s k l
+last-is : (v : TraceVersion) (s : Setup) (k : BlockKind) (fields : List (List ℕ)) (l : Last) → 1 ≤ length s.axes → last_of v s k fields ≡ Ok l → IsLast s k l
 unfolding last_of
-last-is s k (mode ∷ follow ∷ []) l some h =
-    let m = bind_ok (mode_of k mode) _ l h in
+last-is v s k (mode ∷ follow ∷ []) l some h =
+    let m = bind_ok (mode_of v k mode) _ l h in
     let f = bind_ok (follow_of s k follow) _ l m.2 in
     let x : Last = record { mode = m.0; followed = f.0 } in
-    subst (λ y. IsLast s k y) (ok_is (Ok x) x l refl f.2) (record { mode = mode-left k mode m.0 m.1; followed = followed s k follow f.0 some f.1 })
-last-is s k _ l some h = absurd (cc h)
+    subst (λ y. IsLast s k y) (ok_is (Ok x) x l refl f.2) (record { mode = mode-left v k mode m.0 m.1; followed = followed s k follow f.0 some f.1 })
+last-is v s k _ l some h = absurd (cc h)
 
 record AreFit (s : Setup) (b : BlockDef) (i : Inputs) : Type 0 where
   inputs : AreInputs b.kind (axes_of s b) i
@@ -259,13 +259,13 @@ record AreFit (s : Setup) (b : BlockDef) (i : Inputs) : Type 0 where
   long : length i.positions ≡ MOST_MEMBERS
   word : i.table < 2 ^ 16
 
-inputs-fit : (s : Setup) (b : BlockDef) (fields : InputTexts) (i : Inputs) → 1 ≤ length s.axes → HasArrays s → inputs_of s b fields ≡ Ok i → AreFit s b i
+inputs-fit : (v : TraceVersion) (s : Setup) (b : BlockDef) (fields : InputTexts) (i : Inputs) → 1 ≤ length s.axes → HasArrays s → inputs_of v s b fields ≡ Ok i → AreFit s b i
 unfolding inputs_of
-inputs-fit s b fields i some arrays h =
+inputs-fit v s b fields i some arrays h =
     let e = bind_ok (value (flag_of fields.execute)) _ i h in
     let p = bind_ok (positions_of s b fields.positions) _ i e.2 in
     let r = bind_ok (rates_of b.kind fields.rates) _ i p.2 in
-    let l = bind_ok (last_of s b.kind fields.last) _ i r.2 in
+    let l = bind_ok (last_of v s b.kind fields.last) _ i r.2 in
     let x : Inputs = record {
       execute = e.0;
       positions = p.0;
@@ -282,7 +282,7 @@ inputs-fit s b fields i some arrays h =
     let is : x ≡ i = ok_is (Ok x) x i refl l.2 in
     let positions = positions-are s b fields.positions p.0 arrays p.1 in
     let rates = rates-are b.kind fields.rates r.0 r.1 in
-    let last = last-is s b.kind fields.last l.0 some l.1 in
+    let last = last-is v s b.kind fields.last l.0 some l.1 in
     subst (λ y. AreFit s b y) is (record {
       inputs = record {
         positions = positions.each;
@@ -311,15 +311,15 @@ reply-word (outputs ∷ error_id ∷ []) o h =
     subst (λ n. n < 2 ^ 16) is (omega (arith, few))
 reply-word _ o h = absurd (cc h)
 
-call-by : (s : Setup) (name : List ℕ) (inputs : InputTexts) (reply : List (List ℕ)) (e : FoundEntry) → 1 ≤ length s.axes → HasArrays s → call_by s name inputs reply ≡ Ok e → (v : TraceVersion) → IsEntryRead v s e
+call-by : (v : TraceVersion) (s : Setup) (name : List ℕ) (inputs : InputTexts) (reply : List (List ℕ)) (e : FoundEntry) → 1 ≤ length s.axes → HasArrays s → call_by v s name inputs reply ≡ Ok e → IsEntryRead v s e
 unfolding call_by
-call-by s name inputs reply e some arrays h v =
+call-by v s name inputs reply e some arrays h =
     let k = bind_ok (value (block_at s name)) _ e h in
     let b = bind_ok (value (slice_get s.blocks k.0)) _ e k.2 in
-    let i = bind_ok (inputs_of s b.0 inputs) _ e b.2 in
+    let i = bind_ok (inputs_of v s b.0 inputs) _ e b.2 in
     let o = bind_ok (reply_of reply) _ e i.2 in
     let is : found.Call k.0 i.0 o.0 ≡ e = ok_is (Ok (found.Call k.0 i.0 o.0)) (found.Call k.0 i.0 o.0) e refl o.2 in
-    let fit = inputs-fit s b.0 inputs i.0 some arrays i.1 in
+    let fit = inputs-fit v s b.0 inputs i.0 some arrays i.1 in
     let at : slice_get s.blocks k.0 ≡ Some b.0 = results.found (slice_get s.blocks k.0) no_value b.0 b.1 in
     let P : BlockDef → Type 0 = λ d. AreInputs d.kind (axes_of s d) i.0 in
     let made : IsWritableCall s k.0 i.0 o.0 = record {
@@ -335,11 +335,11 @@ call-by s name inputs reply e some arrays h v =
     subst (λ q. IsEntryRead v s q) is made
 
 -- a call that is read is one of its machine
-pub call-read : (s : Setup) (fields : List (List ℕ)) (e : FoundEntry) → 1 ≤ length s.axes → HasArrays s → call_meaning s fields ≡ Ok e → (v : TraceVersion) → IsEntryRead v s e
+pub call-read : (v : TraceVersion) (s : Setup) (fields : List (List ℕ)) (e : FoundEntry) → 1 ≤ length s.axes → HasArrays s → call_meaning v s fields ≡ Ok e → IsEntryRead v s e
 unfolding call_meaning
-call-read s (name ∷ execute ∷ positions ∷ velocity ∷ acceleration ∷ deceleration ∷ jerk ∷ mode ∷ follow ∷ outputs ∷ error_id ∷ []) e some arrays h v =
-    call-by s name _ (outputs ∷ error_id ∷ []) e some arrays h v
-call-read s _ e some arrays h v = absurd (cc h)
+call-read v s (name ∷ execute ∷ positions ∷ velocity ∷ acceleration ∷ deceleration ∷ jerk ∷ mode ∷ follow ∷ outputs ∷ error_id ∷ []) e some arrays h =
+    call-by v s name _ (outputs ∷ error_id ∷ []) e some arrays h
+call-read v s _ e some arrays h = absurd (cc h)
 
 -- so is the end of a task
 pub end-read : (s : Setup) (fields : List (List ℕ)) (e : FoundEntry) → end_meaning s fields ≡ Ok e → (v : TraceVersion) → IsEntryRead v s e

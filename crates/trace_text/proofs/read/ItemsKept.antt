@@ -7,7 +7,7 @@ use Rattle.std.specs.Option.{ok_or}
 use Rattle.std.proofs.lemmas.Bool.{ltb-false}
 use Rattle.std.proofs.lemmas.List.{length-append, length-replicate}
 use Rattle.plc_types.specs.Names.{is_name}
-use Rattle.plc_types.specs.KindNames.{kind_named}
+use Rattle.plc_types.specs.KindNames.{kind_in}
 use Rattle.line_text.specs.Reading.{each_of}
 use Rattle.line_text.specs.Rules.{broken_unless, in_range}
 use Rattle.machine_words.specs.Names.{axis_named, object_at, task_at}
@@ -15,13 +15,14 @@ use Rattle.machine_words.specs.Rules.{broken_by}
 use Rattle.motion_history.specs.Faults.{are_free, axis_fault, block_fault, first_fault, group_fault, name_fault, task_fault}
 use Rattle.motion_history.specs.Members.{group_of}
 use Rattle.motion_history.specs.Setup.{Setup}
+use Rattle.motion_history.specs.Versions.{number_of}
 use Rattle.motion_history.specs.declared.config.GroupDef.{GroupDef}
 use Rattle.motion_history.specs.declared.fault.ConfigFault.{ConfigFault}
 use Rattle.motion_history.specs.declared.fault.ConfigFault.TheVariants.{NameUnknown, TooMany, TooFew}
 use Rattle.motion_history.specs.declared.refused.TraceVersion.{TraceVersion}
-use Rattle.motion_history.specs.declared.refused.TraceVersion.TheVariants.{One, Two}
+use Rattle.motion_history.specs.declared.refused.TraceVersion.TheVariants.{One, Two, Three}
 use Rattle.motion_history.specs.declared.sizes.TheConstants.{MOST_CYCLES, MOST_ENTRIES, MOST_GROUPS, MOST_MEMBERS}
-use Rattle.trace_text.specs.reading.Items.{axis_added, axis_meaning, block_meaning, group_meaning, is_object, limits_of, number, parts_of, placed_of, point, room_meaning, table_meaning, task_meaning}
+use Rattle.trace_text.specs.reading.Items.{axis_added, axis_meaning, block_meaning, group_meaning, is_object, kind_meaning, limits_of, number, parts_of, placed_of, point, room_meaning, table_meaning, task_meaning}
 use Rattle.trace_text.specs.reading.Rules.{are_empty, rule_of, value}
 use Rattle.trace_text.specs.reading.RuleNumbers.{item_refused, item_rules, no_value}
 use Rattle.line_text.proofs.Results.{bind_ok, ok_is}
@@ -67,12 +68,12 @@ group-array name axes few =
 
 -- ---- items
 
-added-kept : (s t : Setup) (name : List ℕ) (limits behind : List (List ℕ)) → HasArrays s → axis_added s name limits behind ≡ Ok t → HasArrays t
+added-kept : (v : TraceVersion) (s t : Setup) (name : List ℕ) (limits behind : List (List ℕ)) → HasArrays s → axis_added v s name limits behind ≡ Ok t → HasArrays t
 unfolding axis_added
-added-kept s t name limits behind h e =
+added-kept v s t name limits behind h e =
     let named = bind_ok (broken_unless (is_name name) no_value) _ t e in
     let l = bind_ok (limits_of limits) _ t named.2 in
-    let p = bind_ok (placed_of behind) _ t l.2 in
+    let p = bind_ok (placed_of v behind) _ t l.2 in
     let fault = bind_ok (broken_by rule_of (axis_fault s name l.0 p.0.inc p.0.start)) _ t p.2 in
     let x : Setup = record s { axes = s.axes ++ record { name = name; limits = l.0; inc = p.0.inc; start = p.0.start; ready = p.0.ready } ∷ [] } in
     let is : x ≡ t = ok_is (Ok x) x t refl fault.2 in
@@ -80,8 +81,9 @@ added-kept s t name limits behind h e =
 
 pub axis-kept : (v : TraceVersion) (s t : Setup) (fields : List (List ℕ)) → HasArrays s → axis_meaning v s fields ≡ Ok t → HasArrays t
 unfolding axis_meaning
-axis-kept One s t (name ∷ lo ∷ hi ∷ vmax ∷ amax ∷ behind) h e = added-kept s t name (lo ∷ hi ∷ vmax ∷ amax ∷ amax ∷ []) behind h e
-axis-kept Two s t (name ∷ lo ∷ hi ∷ vmax ∷ amax ∷ dmax ∷ behind) h e = added-kept s t name (lo ∷ hi ∷ vmax ∷ amax ∷ dmax ∷ []) behind h e
+axis-kept One s t (name ∷ lo ∷ hi ∷ vmax ∷ amax ∷ behind) h e = added-kept One s t name (lo ∷ hi ∷ vmax ∷ amax ∷ amax ∷ []) behind h e
+axis-kept Two s t (name ∷ lo ∷ hi ∷ vmax ∷ amax ∷ dmax ∷ behind) h e = added-kept Two s t name (lo ∷ hi ∷ vmax ∷ amax ∷ dmax ∷ []) behind h e
+axis-kept Three s t (name ∷ lo ∷ hi ∷ vmax ∷ amax ∷ dmax ∷ behind) h e = added-kept Three s t name (lo ∷ hi ∷ vmax ∷ amax ∷ dmax ∷ []) behind h e
 axis-kept v s t _ h e = absurd (cc e)
 
 pub group-kept : (s t : Setup) (fields : List (List ℕ)) → HasArrays s → group_meaning s fields ≡ Ok t → HasArrays t
@@ -114,19 +116,19 @@ task-kept s t (name ∷ unused) h e =
     subst HasArrays is h
 task-kept s t _ h e = absurd (cc e)
 
-pub block-kept : (s t : Setup) (fields : List (List ℕ)) → HasArrays s → block_meaning s fields ≡ Ok t → HasArrays t
+pub block-kept : (v : TraceVersion) (s t : Setup) (fields : List (List ℕ)) → HasArrays s → block_meaning v s fields ≡ Ok t → HasArrays t
 unfolding block_meaning
-block-kept s t (name ∷ of_task ∷ of_kind ∷ of_object ∷ unused) h e =
+block-kept v s t (name ∷ of_task ∷ of_kind ∷ of_object ∷ unused) h e =
     let named = bind_ok (broken_unless (is_name name && are_empty unused) no_value) _ t e in
     let task = bind_ok (value (task_at s of_task)) _ t named.2 in
-    let kind = bind_ok (value (kind_named of_kind)) _ t task.2 in
+    let kind = bind_ok (kind_meaning v of_kind) _ t task.2 in
     let there = bind_ok (broken_unless (is_object s of_object) no_value) _ t kind.2 in
     let object = bind_ok (ok_or (object_at s kind.0 of_object) item_refused) _ t there.2 in
     let fault = bind_ok (broken_by rule_of (block_fault s name task.0 kind.0 object.0)) _ t object.2 in
     let x : Setup = record s { blocks = s.blocks ++ record { name = name; task = task.0; kind = kind.0; object = object.0 } ∷ [] } in
     let is : x ≡ t = ok_is (Ok x) x t refl fault.2 in
     subst HasArrays is h
-block-kept s t _ h e = absurd (cc e)
+block-kept v s t _ h e = absurd (cc e)
 
 -- the room
 pub room-kept : (s t : Setup) (fields : List (List ℕ)) → HasArrays s → room_meaning s fields ≡ Ok t → HasArrays t

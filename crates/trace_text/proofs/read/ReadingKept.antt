@@ -15,7 +15,7 @@ use Rattle.motion_history.specs.Setup.{IsSetup, Setup}
 use Rattle.motion_history.specs.declared.config.GroupDef.{GroupDef}
 use Rattle.motion_history.specs.declared.fault.ConfigFault.TheVariants.{TooFew}
 use Rattle.motion_history.specs.declared.refused.TraceVersion.{TraceVersion}
-use Rattle.motion_history.specs.declared.refused.TraceVersion.TheVariants.{One, Two}
+use Rattle.motion_history.specs.declared.refused.TraceVersion.TheVariants.{One, Two, Three}
 use Rattle.motion_history.specs.declared.sizes.TheConstants.{MOST_MEMBERS}
 use Rattle.trace_text.specs.reading.Events.{call_meaning, cycle_meaning, end_meaning}
 use Rattle.trace_text.specs.Found.{CycleFound}
@@ -165,6 +165,7 @@ entry-kept s t entry is h read e =
 fails-places : (v : TraceVersion) → 0 ≡ places_with v 0
 fails-places One = refl
 fails-places Two = refl
+fails-places Three = refl
 
 not-whole : (n : ℕ) (b : Bool) → 1 ≤ n → (nat_le n 0 && b) ≡ false
 not-whole n b h = rw (false_from_ne_true (nat_le n 0) (λ e. let l : n ≤ 0 = leb-true n 0 e in omega (arith, h, l))) refl
@@ -215,6 +216,7 @@ after-kept s c is h read part = elim (cases_Bool (is_whole_cycle s.setup c)) [
 more-places : (v : TraceVersion) (n : ℕ) → places_with v n + places_with v 1 ≡ places_with v (n + 1)
 more-places One n = refl
 more-places Two n = refl
+more-places Three n = refl
 
 rows-kept : (s t : SoFar) (fields : List (List ℕ)) → is_stage s.stage stage.Rows ≡ true → length s.cycle.axes < length s.setup.axes → Kept s → rows_meaning s fields ≡ Ok t → Kept t
 unfolding rows_meaning
@@ -278,8 +280,8 @@ fields-kept s t kind.Axis fields is h e = item-kept s t kind.Axis (axis_meaning 
 fields-kept s t kind.Group fields is h e = item-kept s t kind.Group (group_meaning s.setup fields) (and_parts _ _ is).0 h (λ u x. group-kept s.setup u fields h.arrays x) e
 fields-kept s t kind.Table fields is h e = item-kept s t kind.Table (table_meaning s.setup fields) (and_parts _ _ is).0 h (λ u x. table-kept s.setup u fields h.arrays x) e
 fields-kept s t kind.Task fields is h e = item-kept s t kind.Task (task_meaning s.setup fields) (and_parts _ _ is).0 h (λ u x. task-kept s.setup u fields h.arrays x) e
-fields-kept s t kind.Block fields is h e = item-kept s t kind.Block (block_meaning s.setup fields) (and_parts _ _ is).0 h (λ u x. block-kept s.setup u fields h.arrays x) e
-fields-kept s t kind.Call fields is h e = entry-kept s t (call_meaning s.setup fields) is h (λ x some arrays r. call-read s.setup fields x some arrays r s.version) e
+fields-kept s t kind.Block fields is h e = item-kept s t kind.Block (block_meaning s.version s.setup fields) (and_parts _ _ is).0 h (λ u x. block-kept s.version s.setup u fields h.arrays x) e
+fields-kept s t kind.Call fields is h e = entry-kept s t (call_meaning s.version s.setup fields) is h (λ x some arrays r. call-read s.version s.setup fields x some arrays r) e
 fields-kept s t kind.Cycle fields is h e = cycle-kept s t (cycle_meaning fields) is h (λ n x. cycle-read fields n x) e
 fields-kept s t kind.Row fields is h e = let b = and_parts _ _ is in rows-kept s t fields b.0 (ltb-true _ _ b.1) h e
 fields-kept s t kind.Grow fields is h e = let b = and_parts _ _ is in grows-kept s t fields b.0 b.1 h e

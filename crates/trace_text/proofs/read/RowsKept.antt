@@ -13,7 +13,7 @@ use Rattle.plc_types.specs.declared.group.GroupRow.{GroupRow}
 use Rattle.line_text.specs.Rules.{broken_unless}
 use Rattle.motion_history.specs.Setup.{Setup}
 use Rattle.motion_history.specs.declared.refused.TraceVersion.{TraceVersion}
-use Rattle.motion_history.specs.declared.refused.TraceVersion.TheVariants.{One, Two}
+use Rattle.motion_history.specs.declared.refused.TraceVersion.TheVariants.{One, Two, Three}
 use Rattle.trace_columns.specs.Columns.{axis_state_of, drive_state_of, flag_of, group_state_of, hex_of, number_of, unsigned_of, wide_number_of}
 use Rattle.trace_text.specs.reading.Events.{cycle_meaning}
 use Rattle.trace_text.specs.Records.{axis_name, group_name}
@@ -111,6 +111,10 @@ place-read Two text p h =
     let z = bind_ok (value (wide_number_of text)) (λ x. Ok (Some x)) p h in
     let wide = wide-range text z.0 (found (wide_number_of text) no_value z.0 z.1) in
     subst (λ q. ArePlaces Two (option_to_list q)) (ok_is (Ok (Some z.0)) (Some z.0) p refl z.2) (record { count = refl; wide = (wide, tt) })
+place-read Three text p h =
+    let z = bind_ok (value (wide_number_of text)) (λ x. Ok (Some x)) p h in
+    let wide = wide-range text z.0 (found (wide_number_of text) no_value z.0 z.1) in
+    subst (λ q. ArePlaces Three (option_to_list q)) (ok_is (Ok (Some z.0)) (Some z.0) p refl z.2) (record { count = refl; wide = (wide, tt) })
 
 -- a row that is read, with the places that stand with it
 pub record IsRead (v : TraceVersion) (r : AxisRow × Option ℤ) : Type 0 where

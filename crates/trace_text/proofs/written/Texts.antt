@@ -76,9 +76,9 @@ machine-text v c s =
     two-more header_fields (trace_fields v c s) (item_records v s)
 
 -- the entries
-pub entry_call : (v : TraceVersion) (s : Setup) (k : ℕ) (i : Inputs) (o : Outputs) → record_text (call_fields s k i o) ≡ entry_text v s (call k i o)
+pub entry_call : (v : TraceVersion) (s : Setup) (k : ℕ) (i : Inputs) (o : Outputs) → record_text (call_fields v s k i o) ≡ entry_text v s (call k i o)
 unfolding entry_text entry_records
-entry_call v s k i o = sym (text_of-one (call_fields s k i o))
+entry_call v s k i o = sym (text_of-one (call_fields v s k i o))
 
 pub entry_cycle : (v : TraceVersion) (s : Setup) (n : ℕ) (rows : List AxisRow) (groups : List GroupRow) →
     record_text (cycle_fields n) ++ text_of (numbered (row_fields v s) 0 rows) ++ text_of (numbered (grow_fields s) 0 groups) ≡ entry_text v s (cycle n rows groups)

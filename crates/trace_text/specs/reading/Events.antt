@@ -6,6 +6,7 @@ use Rattle.line_text.specs.Reading.{◌>>=◌}
 use Rattle.line_text.specs.Rules.{broken_unless}
 use Rattle.machine_words.specs.Names.{block_at, task_at}
 use Rattle.motion_history.specs.Setup.{Setup}
+use Rattle.motion_history.specs.declared.refused.TraceVersion.{TraceVersion}
 use Rattle.trace_columns.specs.Columns.{outputs_of, unsigned_of}
 use Rattle.trace_text.specs.reading.InputFields.{InputTexts}
 use Rattle.trace_text.specs.reading.Inputs.{inputs_of}
@@ -22,25 +23,26 @@ reply_of (outputs ∷ error_id ∷ []) = do
 reply_of _ = Err no_value
 
 -- a call of a block of this name
-unfoldable pub call_by : Setup → List ℕ → InputTexts → List (List ℕ) → Result FoundEntry ℕ
-call_by s name inputs reply = do
+unfoldable pub call_by : TraceVersion → Setup → List ℕ → InputTexts → List (List ℕ) →
+    Result FoundEntry ℕ
+call_by v s name inputs reply = do
   k ← value (block_at s name)
   b ← value (slice_get s.blocks k)
-  i ← inputs_of s b inputs
+  i ← inputs_of v s b inputs
   o ← reply_of reply
   Ok (found.Call k i o)
 
 -- a call: its block, its inputs, its outputs and the ErrorID
-unfoldable pub call_meaning : Setup → List (List ℕ) → Result FoundEntry ℕ
-call_meaning s (name ∷ execute ∷ positions ∷ velocity ∷ acceleration ∷ deceleration ∷ jerk ∷
+unfoldable pub call_meaning : TraceVersion → Setup → List (List ℕ) → Result FoundEntry ℕ
+call_meaning v s (name ∷ execute ∷ positions ∷ velocity ∷ acceleration ∷ deceleration ∷ jerk ∷
     mode ∷ follow ∷ outputs ∷ error_id ∷ []) =
-    call_by s name (record {
+    call_by v s name (record {
       execute = execute;
       positions = positions;
       rates = velocity ∷ acceleration ∷ deceleration ∷ jerk ∷ [];
       last = mode ∷ follow ∷ [];
     }) (outputs ∷ error_id ∷ [])
-call_meaning s _ = Err no_value
+call_meaning v s _ = Err no_value
 
 -- the end of a task
 unfoldable pub end_meaning : Setup → List (List ℕ) → Result FoundEntry ℕ

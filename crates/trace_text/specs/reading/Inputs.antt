@@ -1,7 +1,7 @@
 -- The inputs of a call, read from the fields of its record. This project's profile.
 use Rattle.std.specs.Prelude.{ℕ, ℤ, pos, ◌==◌, if◌then◌else◌, Result, Ok, Err, List, [], ◌∷◌, length}
 use Rattle.plc_types.specs.declared.kind.BlockKind.{BlockKind}
-use Rattle.plc_types.specs.declared.kind.BlockKind.TheVariants.{GearIn, CamIn}
+use Rattle.plc_types.specs.declared.kind.BlockKind.TheVariants.{MoveAbsolute, GearIn, CamIn}
 use Rattle.plc_types.specs.declared.kind.BufferMode.{BufferMode}
 use Rattle.plc_types.specs.declared.kind.BufferMode.TheVariants.{Aborting}
 use Rattle.plc_types.specs.Inputs.{takes}
@@ -11,14 +11,18 @@ use Rattle.plc_types.specs.declared.inputs.Input.TheVariants.{Position, Velocity
 use Rattle.plc_types.specs.declared.inputs.Inputs.{Inputs}
 use Rattle.line_text.specs.Reading.{◌>>=◌, each_of}
 use Rattle.line_text.specs.Rules.{broken_unless}
+use Rattle.line_text.specs.Texts.{says}
 use Rattle.machine_words.specs.Names.{axis_named}
 use Rattle.machine_words.specs.Positions.{no_positions, positions_from}
 use Rattle.motion_history.specs.Calls.{axes_of}
 use Rattle.motion_history.specs.Setup.{Setup}
 use Rattle.motion_history.specs.declared.config.BlockDef.{BlockDef}
+use Rattle.motion_history.specs.declared.refused.TraceVersion.{TraceVersion}
+use Rattle.motion_history.specs.declared.refused.TraceVersion.TheVariants.{Three}
 use Rattle.trace_columns.specs.Columns.{flag_of, halves_of, unsigned_of}
 use Rattle.trace_text.specs.reading.Items.{number, parts_of}
 use Rattle.trace_text.specs.reading.Rules.{unused, value}
+use Rattle.trace_text.specs.Words.{shortest}
 use Rattle.trace_text.specs.declared.reading.inputs.Followed.{Followed}
 use Rattle.trace_text.specs.declared.reading.inputs.Rates.{Rates}
 use Rattle.trace_text.specs.declared.reading.inputs.Last.{Last}
@@ -41,17 +45,26 @@ positions_of s b text =
 unfoldable pub input_of : BlockKind → Input → List ℕ → Result ℤ ℕ
 input_of k input text = if takes k input then number text else unused text (pos 0)
 
+-- the parts before the first colon and after it; a field without one breaks its rule
+unfoldable pub halves : List ℕ → Result (List ℕ × List ℕ) ℕ
+halves text = value (halves_of text)
+
+-- the buffer mode of a kind that takes it; in version 3 an absolute move has its direction after a
+-- colon
+unfoldable pub mode_meaning : TraceVersion → BlockKind → List ℕ → Result BufferMode ℕ
+mode_meaning Three MoveAbsolute text = do
+  parts ← halves text
+  _ ← broken_unless (says parts.1 shortest) no_value
+  value (mode_named parts.0)
+mode_meaning v k text = value (mode_named text)
+
 -- the buffer mode of a call, where its kind takes it
-unfoldable pub mode_of : BlockKind → List ℕ → Result BufferMode ℕ
-mode_of k text = if takes k Mode then value (mode_named text) else unused text Aborting
+unfoldable pub mode_of : TraceVersion → BlockKind → List ℕ → Result BufferMode ℕ
+mode_of v k text = if takes k Mode then mode_meaning v k text else unused text Aborting
 
 -- what an axis follows that follows none
 abbrev pub no_master : Followed
 no_master = record { master = 0; numerator = pos 1; denominator = pos 1; table = 0 }
-
--- the parts before the first colon and after it; a field without one breaks its rule
-unfoldable pub halves : List ℕ → Result (List ℕ × List ℕ) ℕ
-halves text = value (halves_of text)
 
 -- MASTER:NUM:DEN of a gear
 unfoldable pub gear_of : Setup → List ℕ → Result Followed ℕ
@@ -88,20 +101,20 @@ rates_of k (velocity ∷ acceleration ∷ deceleration ∷ jerk ∷ []) = do
 rates_of k _ = Err no_value
 
 -- the buffer mode of a call, and what its axis follows
-unfoldable pub last_of : Setup → BlockKind → List (List ℕ) → Result Last ℕ
-last_of s k (mode ∷ follow ∷ []) = do
-  m ← mode_of k mode
+unfoldable pub last_of : TraceVersion → Setup → BlockKind → List (List ℕ) → Result Last ℕ
+last_of v s k (mode ∷ follow ∷ []) = do
+  m ← mode_of v k mode
   f ← follow_of s k follow
   Ok (record { mode = m; followed = f })
-last_of s k _ = Err no_value
+last_of v s k _ = Err no_value
 
 -- the inputs of a call
-unfoldable pub inputs_of : Setup → BlockDef → InputTexts → Result Inputs ℕ
-inputs_of s b fields = do
+unfoldable pub inputs_of : TraceVersion → Setup → BlockDef → InputTexts → Result Inputs ℕ
+inputs_of v s b fields = do
   e ← value (flag_of fields.execute)
   p ← positions_of s b fields.positions
   r ← rates_of b.kind fields.rates
-  l ← last_of s b.kind fields.last
+  l ← last_of v s b.kind fields.last
   Ok (record {
     execute = e;
     positions = p;

@@ -12,7 +12,7 @@ use Rattle.motion_history.specs.declared.refused.TextFault.{TextFault}
 use Rattle.motion_history.specs.declared.refused.TextFault.TheVariants.{Refused, OutOfMemory}
 use Rattle.motion_history.specs.declared.refused.TextRefused.{TextRefused}
 use Rattle.motion_history.specs.declared.refused.TraceVersion.{TraceVersion}
-use Rattle.motion_history.specs.declared.refused.TraceVersion.TheVariants.{One, Two}
+use Rattle.motion_history.specs.declared.refused.TraceVersion.TheVariants.{One, Two, Three}
 use Rattle.trace_text.specs.reading.Events.{call_meaning, cycle_meaning, end_meaning}
 use Rattle.trace_text.specs.Found.{CycleFound}
 use Rattle.trace_text.specs.reading.Items.{axis_meaning, block_meaning, group_meaning, room_meaning, table_meaning, task_meaning, whole}
@@ -74,7 +74,8 @@ header_meaning s fields = do
 unfoldable pub version_of : List ℕ → Option TraceVersion
 version_of text =
     if says text (version_text One) then Some One
-    else if says text (version_text Two) then Some Two else None
+    else if says text (version_text Two) then Some Two
+    else if says text (version_text Three) then Some Three else None
 
 -- who makes traces
 unfoldable pub command_of : List ℕ → Option Command
@@ -155,8 +156,8 @@ fields_meaning s kind.Axis fields = with_item s kind.Axis (axis_meaning s.versio
 fields_meaning s kind.Group fields = with_item s kind.Group (group_meaning s.setup fields)
 fields_meaning s kind.Table fields = with_item s kind.Table (table_meaning s.setup fields)
 fields_meaning s kind.Task fields = with_item s kind.Task (task_meaning s.setup fields)
-fields_meaning s kind.Block fields = with_item s kind.Block (block_meaning s.setup fields)
-fields_meaning s kind.Call fields = with_entry s (call_meaning s.setup fields)
+fields_meaning s kind.Block fields = with_item s kind.Block (block_meaning s.version s.setup fields)
+fields_meaning s kind.Call fields = with_entry s (call_meaning s.version s.setup fields)
 fields_meaning s kind.Cycle fields = with_cycle s (cycle_meaning fields)
 fields_meaning s kind.Row fields = rows_meaning s fields
 fields_meaning s kind.Grow fields = grows_meaning s fields

@@ -10,7 +10,7 @@ use Rattle.line_text.specs.Reading.{◌>>=◌}
 use Rattle.line_text.specs.Rules.{broken_unless}
 use Rattle.motion_history.specs.Setup.{Setup}
 use Rattle.motion_history.specs.declared.refused.TraceVersion.{TraceVersion}
-use Rattle.motion_history.specs.declared.refused.TraceVersion.TheVariants.{One, Two}
+use Rattle.motion_history.specs.declared.refused.TraceVersion.TheVariants.{One}
 use Rattle.trace_columns.specs.Columns.{axis_state_of, drive_state_of, flag_of, group_state_of, hex_of, number_of, unsigned_of, wide_number_of}
 use Rattle.trace_text.specs.reading.Rules.{are_empty, unused, value}
 use Rattle.trace_text.specs.Records.{axis_name, group_name}
@@ -54,10 +54,10 @@ given_of (controlword ∷ target ∷ []) = do
   Ok (record { controlword = w; mode = pos 8; target = t })
 given_of _ = Err no_value
 
--- the place that a drive reported, in version 2 alone
+-- the place that a drive reported; version 1 has none
 unfoldable pub place_meaning : TraceVersion → List ℕ → Result (Option ℤ) ℕ
 place_meaning One text = unused text None
-place_meaning Two text = do
+place_meaning v text = do
   p ← value (wide_number_of text)
   Ok (Some p)
 

@@ -6,7 +6,7 @@ use Rattle.machine_words.specs.declared.rule.ItemRules.{ItemRules}
 abbrev pub not_twelve : ℕ
 not_twelve = 1
 
--- the first record isn't the header, or the second isn't a trace record of version 1 or 2
+-- the first record isn't the header, or the second isn't a trace record of version 1, 2 or 3
 abbrev pub no_header : ℕ
 no_header = 2
 

@@ -21,10 +21,11 @@ use trace_columns::{outputs_of, unsigned_of, word_of};
 pub fn call_of(
     alloc: Global,
     known: &mut KnownBlocks,
+    version: TraceVersion,
     machine: &Builder,
     fields: &[&[u8]],
 ) -> Result<FoundEntry, LineFault>
-    ensures { Gives (λ e. e) (spec.call_meaning machine.now (texts fields.now)) result }
+    ensures { Gives (λ e. e) (spec.call_meaning version machine.now (texts fields.now)) result }
 {
     let [
         name,
@@ -48,7 +49,15 @@ pub fn call_of(
         rates: &[velocity, acceleration, deceleration, jerk],
         last: &[mode, follow],
     };
-    call_by(alloc, known, machine, name, &inputs, &[outputs, error_id])
+    call_by(
+        alloc,
+        known,
+        version,
+        machine,
+        name,
+        &inputs,
+        &[outputs, error_id],
+    )
 }
 
 // The call of a block of this name.
@@ -56,19 +65,21 @@ pub fn call_of(
 fn call_by(
     alloc: Global,
     known: &mut KnownBlocks,
+    version: TraceVersion,
     machine: &Builder,
     name: &[u8],
     inputs: &InputFields<'_>,
     reply: &[&[u8]],
 ) -> Result<FoundEntry, LineFault>
     ensures { Gives (λ e. e)
-        (spec.call_by machine.now name.now (fields_of inputs.now) (texts reply.now)) result }
+        (spec.call_by version machine.now name.now (fields_of inputs.now) (texts reply.now))
+        result }
 {
     let instance = value(known.block_at(machine, name))?;
     let Some(block) = machine.blocks().get(instance as usize) else {
         return Err(LineFault::Rule(NO_VALUE));
     };
-    let inputs = inputs_of(alloc, machine, block, inputs)?;
+    let inputs = inputs_of(alloc, version, machine, block, inputs)?;
     let reply = reply_of(alloc, reply)?;
     Ok(FoundEntry::Call {
         instance,
@@ -129,7 +140,7 @@ fn room_of(version: TraceVersion, machine: &Builder) -> CycleRoom {
     let groups = machine.groups().len();
     let places = match version {
         TraceVersion::One => 0,
-        TraceVersion::Two => axes,
+        TraceVersion::Two | TraceVersion::Three => axes,
     };
     CycleRoom {
         axes,

@@ -33,9 +33,9 @@ pub fn follow_of(machine: &Builder, kind: BlockKind, text: &[u8]) -> Result<Foll
     }
 }
 
-// The parts of a field before its first colon and after it.
+/// The parts of a field before its first colon and after it.
 #[tactic(auto, unfolding(crate::specs::reading::Inputs::halves))]
-fn halves(text: &[u8]) -> Result<(&[u8], &[u8]), LineFault>
+pub fn halves(text: &[u8]) -> Result<(&[u8], &[u8]), LineFault>
     ensures { Gives (λ h. (h.0.now, h.1.now)) (spec.halves text.now) result }
 {
     match halves_of(text) {

@@ -50,6 +50,8 @@ pub fn version_of(text: &[u8]) -> Option<TraceVersion>
         Some(TraceVersion::One)
     } else if says(text, b"2") {
         Some(TraceVersion::Two)
+    } else if says(text, b"3") {
+        Some(TraceVersion::Three)
     } else {
         None
     }

@@ -6,12 +6,12 @@ ghost use Rattle.line_text.specs.Texts.{texts};
 ghost use Rattle.trace_text.specs.reading.InputFields.{fields_of};
 ghost use Rattle.trace_text.specs.reading.Inputs as spec;
 
-use crate::reading::follow::follow_of;
+use crate::reading::follow::{follow_of, halves};
 use crate::reading::item::number;
 use crate::reading::positions::positions_of;
 use crate::reading::rule::{NO_VALUE, unused, value};
-use line_text::LineFault;
-use motion_history::{BlockDef, Builder};
+use line_text::{LineFault, broken_unless, says};
+use motion_history::{BlockDef, Builder, TraceVersion};
 use plc_types::{BlockKind, BufferMode, Input, Inputs, mode_named, takes};
 use std::alloc::Global;
 use trace_columns::flag_of;
@@ -59,16 +59,18 @@ pub struct InputFields<'a> {
 #[tactic(auto, unfolding(crate::specs::reading::Inputs::inputs_of))]
 pub fn inputs_of(
     alloc: Global,
+    version: TraceVersion,
     machine: &Builder,
     block: &BlockDef,
     fields: &InputFields<'_>,
 ) -> Result<Inputs, LineFault>
-    ensures { Gives (λ i. i) (spec.inputs_of machine.now block.now (fields_of fields.now)) result }
+    ensures { Gives (λ i. i) (spec.inputs_of version machine.now block.now (fields_of fields.now))
+        result }
 {
     let execute = value(flag_of(fields.execute))?;
     let positions = positions_of(alloc, machine, block, fields.positions)?;
     let rates = rates_of(block.kind, fields.rates)?;
-    let last = last_of(machine, block.kind, fields.last)?;
+    let last = last_of(version, machine, block.kind, fields.last)?;
     Ok(Inputs {
         execute,
         positions,
@@ -86,13 +88,18 @@ pub fn inputs_of(
 
 // The buffer mode of a call, and what its axis follows.
 #[tactic(auto, unfolding(crate::specs::reading::Inputs::last_of))]
-fn last_of(machine: &Builder, kind: BlockKind, fields: &[&[u8]]) -> Result<Last, LineFault>
-    ensures { Gives (λ l. l) (spec.last_of machine.now kind (texts fields.now)) result }
+fn last_of(
+    version: TraceVersion,
+    machine: &Builder,
+    kind: BlockKind,
+    fields: &[&[u8]],
+) -> Result<Last, LineFault>
+    ensures { Gives (λ l. l) (spec.last_of version machine.now kind (texts fields.now)) result }
 {
     let [mode, follow] = fields else {
         return Err(LineFault::Rule(NO_VALUE));
     };
-    let mode = mode_of(kind, mode)?;
+    let mode = mode_of(version, kind, mode)?;
     let followed = follow_of(machine, kind, follow)?;
     Ok(Last { mode, followed })
 }
@@ -131,12 +138,34 @@ fn input_of(kind: BlockKind, input: Input, text: &[u8]) -> Result<i64, LineFault
 
 // The buffer mode of a call, where its kind takes it.
 #[tactic(auto, unfolding(crate::specs::reading::Inputs::mode_of))]
-fn mode_of(kind: BlockKind, text: &[u8]) -> Result<BufferMode, LineFault>
-    ensures { Gives (λ m. m) (spec.mode_of kind text.now) result }
+fn mode_of(version: TraceVersion, kind: BlockKind, text: &[u8]) -> Result<BufferMode, LineFault>
+    ensures { Gives (λ m. m) (spec.mode_of version kind text.now) result }
 {
     if takes(kind, Input::Mode) {
-        value(mode_named(text))
+        taken_mode(version, kind, text)
     } else {
         unused(text, BufferMode::Aborting)
     }
+}
+
+// The buffer mode of a kind that takes it.
+#[tactic(auto, unfolding(crate::specs::reading::Inputs::mode_meaning))]
+fn taken_mode(version: TraceVersion, kind: BlockKind, text: &[u8]) -> Result<BufferMode, LineFault>
+    ensures { Gives (λ m. m) (spec.mode_meaning version kind text.now) result }
+{
+    match (version, kind) {
+        (TraceVersion::Three, BlockKind::MoveAbsolute) => directed_mode(text),
+        _ => value(mode_named(text)),
+    }
+}
+
+// The buffer mode of an absolute move in version 3, before its direction.
+#[tactic(auto, unfolding(crate::specs::reading::Inputs::mode_meaning, crate::specs::Words::shortest))]
+fn directed_mode(text: &[u8]) -> Result<BufferMode, LineFault>
+    ensures { Gives (λ m. m)
+        (spec.mode_meaning TraceVersion.Three BlockKind.MoveAbsolute text.now) result }
+{
+    let (mode, direction) = halves(text)?;
+    broken_unless(says(direction, b"shortest"), NO_VALUE)?;
+    value(mode_named(mode))
 }

@@ -10,7 +10,7 @@ use crate::reading::rule::{NO_VALUE, REFUSED, are_empty, refusal_of, value};
 use line_text::{LineFault, broken_unless, in_range};
 use machine_words::{axis_at, group_at, is_whole, object_at, task_at};
 use motion_history::{Builder, MOST_CYCLES, MOST_ENTRIES, TraceVersion};
-use plc_types::{Limits, is_name, kind_named};
+use plc_types::{BlockKind, Limits, is_name, kind_in};
 use std::alloc::{AllocError, Global};
 use trace_columns::{flag_of, number_of};
 
@@ -56,13 +56,13 @@ pub fn add_axis(
             let [name, lo, hi, vmax, amax, behind @ ..] = fields else {
                 return Err(LineFault::Rule(NO_VALUE));
             };
-            place_axis(machine, name, &[lo, hi, vmax, amax, amax], behind)
+            place_axis(machine, version, name, &[lo, hi, vmax, amax, amax], behind)
         }
-        TraceVersion::Two => {
+        TraceVersion::Two | TraceVersion::Three => {
             let [name, lo, hi, vmax, amax, dmax, behind @ ..] = fields else {
                 return Err(LineFault::Rule(NO_VALUE));
             };
-            place_axis(machine, name, &[lo, hi, vmax, amax, dmax], behind)
+            place_axis(machine, version, name, &[lo, hi, vmax, amax, dmax], behind)
         }
     }
 }
@@ -71,16 +71,17 @@ pub fn add_axis(
 #[tactic(auto, unfolding(crate::specs::reading::Items::axis_added))]
 fn place_axis(
     machine: &mut Builder,
+    version: TraceVersion,
     name: &[u8],
     limits: &[&[u8]],
     behind: &[&[u8]],
 ) -> Result<(), LineFault>
-    ensures { Takes (spec.axis_added machine.old name.now (texts limits.now) (texts behind.now))
-        machine.new result }
+    ensures { Takes (spec.axis_added version machine.old name.now (texts limits.now)
+        (texts behind.now)) machine.new result }
 {
     broken_unless(is_name(name), NO_VALUE)?;
     let limits = limits_of(limits)?;
-    let placed = placed_of(behind)?;
+    let placed = placed_of(version, behind)?;
     match machine.axis(name, &limits, placed.inc, placed.start, placed.ready) {
         Ok(_) => Ok(()),
         Err(fault) => Err(refusal_of(fault)),
@@ -111,17 +112,37 @@ fn limits_of(fields: &[&[u8]]) -> Result<Limits, LineFault>
 
 // Where an axis stands.
 #[tactic(auto, unfolding(crate::specs::reading::Items::placed_of))]
-fn placed_of(fields: &[&[u8]]) -> Result<Placed, LineFault>
-    ensures { Gives (λ p. p) (spec.placed_of (texts fields.now)) result }
+fn placed_of(version: TraceVersion, fields: &[&[u8]]) -> Result<Placed, LineFault>
+    ensures { Gives (λ p. p) (spec.placed_of version (texts fields.now)) result }
 {
-    let [inc, start, ready, unused @ ..] = fields else {
+    let [inc, start, ready, behind @ ..] = fields else {
         return Err(LineFault::Rule(NO_VALUE));
     };
     let inc = number(inc)?;
     let start = number(start)?;
     let ready = value(flag_of(ready))?;
-    broken_unless(are_empty(unused), NO_VALUE)?;
+    check_axis_end(version, behind)?;
     Ok(Placed { inc, start, ready })
+}
+
+// Refuses last fields of an axis that aren't its version's, and an axis that has a jerk limit or is
+// modulo.
+#[tactic(auto, unfolding(crate::specs::reading::Items::axis_end_meaning))]
+fn check_axis_end(version: TraceVersion, fields: &[&[u8]]) -> Result<(), LineFault>
+    ensures { Gives (λ u. u) (spec.axis_end_meaning version (texts fields.now)) result }
+{
+    match version {
+        TraceVersion::One | TraceVersion::Two => broken_unless(are_empty(fields), NO_VALUE),
+        TraceVersion::Three => {
+            let [jerk, modulo, unused @ ..] = fields else {
+                return Err(LineFault::Rule(NO_VALUE));
+            };
+            let jerk = number(jerk)?;
+            let modulo = value(flag_of(modulo))?;
+            broken_unless(are_empty(unused), NO_VALUE)?;
+            broken_unless(jerk == 0 && !modulo, REFUSED)
+        }
+    }
 }
 
 /// Adds the task of a record.
@@ -147,17 +168,29 @@ fn is_object(machine: &Builder, name: &[u8]) -> bool
     axis_at(machine, name).is_some() || group_at(machine, name).is_some()
 }
 
+// The kind of a block, which the version has.
+#[tactic(auto, unfolding(crate::specs::reading::Items::kind_meaning))]
+fn kind_of(version: TraceVersion, text: &[u8]) -> Result<BlockKind, LineFault>
+    ensures { Gives (λ k. k) (spec.kind_meaning version text.now) result }
+{
+    value(kind_in(version.number(), text))
+}
+
 /// Adds the block of a record.
 #[tactic(auto, unfolding(crate::specs::reading::Items::block_meaning))]
-pub fn add_block(machine: &mut Builder, fields: &[&[u8]]) -> Result<(), LineFault>
-    ensures { Takes (spec.block_meaning machine.old (texts fields.now)) machine.new result }
+pub fn add_block(
+    machine: &mut Builder,
+    version: TraceVersion,
+    fields: &[&[u8]],
+) -> Result<(), LineFault>
+    ensures { Takes (spec.block_meaning version machine.old (texts fields.now)) machine.new result }
 {
     let [name, task, kind, object, unused @ ..] = fields else {
         return Err(LineFault::Rule(NO_VALUE));
     };
     broken_unless(is_name(name) && are_empty(unused), NO_VALUE)?;
     let task = value(task_at(machine, task))?;
-    let kind = value(kind_named(kind))?;
+    let kind = kind_of(version, kind)?;
     broken_unless(is_object(machine, object), NO_VALUE)?;
     let Some(object) = object_at(machine, kind, object) else {
         return Err(LineFault::Rule(REFUSED));

@@ -61,7 +61,7 @@ impl TraceReader {
         ensures { Takes (spec.fields_meaning self.old Kind.Block (texts fields.now))
             self.new result }
     {
-        add_block(&mut self.machine, fields)?;
+        add_block(&mut self.machine, self.version, fields)?;
         self.last = Kind::Block;
         Ok(())
     }

@@ -140,9 +140,16 @@ impl TraceReader {
     // Takes a call.
     fn read_call(&mut self, fields: &[&[u8]]) -> Result<(), LineFault>
         ensures { Takes (spec.with_entry self.old
-            (events.call_meaning self.old.setup (texts fields.now))) self.new result }
+            (events.call_meaning self.old.version self.old.setup (texts fields.now)))
+            self.new result }
     {
-        let entry = call_of(self.alloc, &mut self.known, &self.machine, fields);
+        let entry = call_of(
+            self.alloc,
+            &mut self.known,
+            self.version,
+            &self.machine,
+            fields,
+        );
         self.push(entry)
     }
 

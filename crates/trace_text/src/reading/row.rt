@@ -159,7 +159,7 @@ fn given_of(fields: &[&[u8]]) -> Result<DriveOut, LineFault>
     })
 }
 
-// The place that a drive reported, in version 2 alone.
+// The place that a drive reported; version 1 has none.
 #[tactic(auto, unfolding(crate::specs::reading::Rows::place_meaning))]
 fn place_of(version: TraceVersion, text: &[u8]) -> Result<Option<i64>, LineFault>
     ensures { Gives (λ p. p) (spec.place_meaning version text.now) result }
@@ -169,7 +169,7 @@ fn place_of(version: TraceVersion, text: &[u8]) -> Result<Option<i64>, LineFault
             broken_unless(is_empty(text), NO_VALUE)?;
             Ok(None)
         }
-        TraceVersion::Two => {
+        TraceVersion::Two | TraceVersion::Three => {
             let place = value(wide_number_of(text))?;
             Ok(Some(place))
         }

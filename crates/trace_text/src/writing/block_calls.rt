@@ -7,12 +7,12 @@ ghost use Rattle.trace_text.specs.writing.Between.{IsBetween};
 ghost use Rattle.trace_text.specs.Records.{block_call_fields, call_fields, record_text};
 
 use crate::records::write_record;
-use crate::writing::fields::{number_text, taken_text};
+use crate::writing::fields::{mode_text, number_text, taken_text};
 use crate::writing::parts::{follow_text, positions_text};
 use csv::Writer;
 use itoa::Buffer;
-use motion_history::{BlockDef, Config, OutOfMemory};
-use plc_types::{Input, Inputs, Outputs, mode_name, takes};
+use motion_history::{BlockDef, Config, OutOfMemory, TraceVersion};
+use plc_types::{Input, Inputs, Outputs, takes};
 use std::alloc::Global;
 use std::io::Write;
 use trace_columns::{flag_text, outputs_text};
@@ -22,6 +22,7 @@ use trace_columns::{flag_text, outputs_text};
 pub fn write_call<W: Write + Drop>(
     alloc: Global,
     wtr: &mut Writer<W>,
+    version: TraceVersion,
     config: &Config,
     block: u16,
     inputs: &Inputs,
@@ -30,11 +31,11 @@ pub fn write_call<W: Write + Drop>(
     requires { IsBetween wtr.old }
     ensures text { OnOk result (Appends (text_written W.contents wtr.old)
         (text_written W.contents wtr.new)
-        (record_text (call_fields config.now block inputs.now reply.now))) }
+        (record_text (call_fields version config.now block inputs.now reply.now))) }
     ensures between { OnOk result (IsBetween wtr.new) }
 {
     match config.blocks().get(block as usize) {
-        Some(def) => write_call_of(alloc, wtr, config, def, inputs, reply),
+        Some(def) => write_call_of(alloc, wtr, version, config, def, inputs, reply),
         None => write_record(wtr, &[b"call"]),
     }
 }
@@ -43,6 +44,7 @@ pub fn write_call<W: Write + Drop>(
 fn write_call_of<W: Write + Drop>(
     alloc: Global,
     wtr: &mut Writer<W>,
+    version: TraceVersion,
     config: &Config,
     block: &BlockDef,
     inputs: &Inputs,
@@ -51,7 +53,7 @@ fn write_call_of<W: Write + Drop>(
     requires { IsBetween wtr.old }
     ensures text { OnOk result (Appends (text_written W.contents wtr.old)
         (text_written W.contents wtr.new)
-        (record_text (block_call_fields config.now block.now inputs.now reply.now))) }
+        (record_text (block_call_fields version config.now block.now inputs.now reply.now))) }
     ensures between { OnOk result (IsBetween wtr.new) }
 {
     let name = block.name;
@@ -85,7 +87,10 @@ fn write_call_of<W: Write + Drop>(
                 inputs.deceleration,
             ),
             number_text(kind, Input::Jerk, &mut jerk, inputs.jerk),
-            taken_text(takes(kind, Input::Mode), mode_name(inputs.mode).as_bytes()),
+            taken_text(
+                takes(kind, Input::Mode),
+                mode_text(version, kind, inputs.mode).as_bytes(),
+            ),
             follow.as_slice(),
             outputs.as_slice(),
             error.format(reply.error_id).as_bytes(),

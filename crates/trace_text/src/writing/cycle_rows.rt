@@ -55,7 +55,7 @@ pub fn reported_place(axis: &AxisDef, row: &AxisRow) -> i128
     }
 }
 
-// The text of that place, in version 2 alone.
+// The text of that place; version 1 has no field for it.
 #[tactic(auto, unfolding(crate::specs::Records::reported_text))]
 fn reported_text<'a>(
     digits: &'a mut Buffer,
@@ -68,7 +68,7 @@ fn reported_text<'a>(
 {
     match version {
         TraceVersion::One => b"",
-        TraceVersion::Two => match config.axes().get(axis) {
+        TraceVersion::Two | TraceVersion::Three => match config.axes().get(axis) {
             Some(def) => digits.format(reported_place(def, row)).as_bytes(),
             None => b"",
         },

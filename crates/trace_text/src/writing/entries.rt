@@ -54,7 +54,7 @@ pub fn write_entry<W: Write + Drop>(
             instance,
             inputs,
             reply,
-        } => write_call(alloc, wtr, config, *instance, inputs, reply),
+        } => write_call(alloc, wtr, version, config, *instance, inputs, reply),
         EntryLook::Cycle {
             number,
             axes,

@@ -8,7 +8,7 @@ ghost use Rattle.trace_text.specs.Records as spec;
 ghost use Rattle.trace_text.specs.Records.{record_text};
 
 use crate::command::Command;
-use crate::records::{object_name, task_name, write_record};
+use crate::records::{object_name, task_name, write_record, write_whole};
 use crate::writing::fields::{command_text, version_text};
 use crate::writing::parts::{members_text, points_text};
 use cam_table::CamTable;
@@ -78,6 +78,7 @@ pub fn write_axis<W: Write + Drop>(
     match version {
         TraceVersion::One => write_axis_one(wtr, axis),
         TraceVersion::Two => write_axis_two(wtr, axis),
+        TraceVersion::Three => write_axis_three(wtr, axis),
     }
 }
 
@@ -141,6 +142,43 @@ fn write_axis_two<W: Write + Drop>(wtr: &mut Writer<W>, axis: &AxisDef) -> Resul
             inc.format(axis.inc).as_bytes(),
             start.format(axis.start).as_bytes(),
             flag_text(axis.ready).as_bytes(),
+        ],
+    )
+}
+
+// An axis in version 3, without a jerk limit and not modulo.
+#[tactic(auto, unfolding(crate::specs::Records::record_text))]
+fn write_axis_three<W: Write + Drop>(wtr: &mut Writer<W>, axis: &AxisDef) -> Result<(), OutOfMemory>
+    requires { IsBetween wtr.old }
+    ensures text { OnOk result (Appends (text_written W.contents wtr.old)
+        (text_written W.contents wtr.new)
+        (record_text (spec.axis_fields TraceVersion.Three axis.now))) }
+    ensures between { OnOk result (IsBetween wtr.new) }
+{
+    let name = axis.name;
+    let mut lo = Buffer::new();
+    let mut hi = Buffer::new();
+    let mut vmax = Buffer::new();
+    let mut amax = Buffer::new();
+    let mut dmax = Buffer::new();
+    let mut inc = Buffer::new();
+    let mut start = Buffer::new();
+    let mut jerk = Buffer::new();
+    write_whole(
+        wtr,
+        &[
+            b"axis",
+            name.bytes(),
+            lo.format(axis.limits.lo).as_bytes(),
+            hi.format(axis.limits.hi).as_bytes(),
+            vmax.format(axis.limits.vmax).as_bytes(),
+            amax.format(axis.limits.amax).as_bytes(),
+            dmax.format(axis.limits.dmax).as_bytes(),
+            inc.format(axis.inc).as_bytes(),
+            start.format(axis.start).as_bytes(),
+            flag_text(axis.ready).as_bytes(),
+            jerk.format(0_i64).as_bytes(),
+            flag_text(false).as_bytes(),
         ],
     )
 }

@@ -1,10 +1,13 @@
 -- An axis has the error that its cycle gives.
--- for: errors_have_causes, errors_are_told_as_shown
+-- for: errors_have_causes, errors_are_told_as_shown, commands_end_by_their_kinds
 use Rattle.std.specs.Prelude.{◌≡◌, ◌≢◌, ◌⊎◌, refl, ℕ, Bool, true, false, ◌&&◌, nat_eq, if◌then◌else◌, ℤ, ◌+ℤ◌, Option, Some, None, List, [], ◌∷◌, slice_get}
 use Rattle.std.proofs.Common.{ap, subst, sym, ◌∙◌, inl, inr}
 use Rattle.std.proofs.lemmas.Bool.{cases_Bool}
+use Rattle.axis_core.specs.declared.profile.Goal.{Goal}
+use Rattle.axis_core.specs.declared.profile.Goal.TheVariants.{FromBefore}
+use Rattle.axis_core.specs.Profiles.{profile_of}
 use Rattle.axis_core.proofs.KeptCycles.{reset-same}
-use Rattle.axis_core.specs.Cores.{Core, axis_under, axis_under_by, core_after_end, core_after_ending, core_after_error, core_after_take_over, core_taken_by}
+use Rattle.axis_core.specs.Cores.{Core, axis_under, axis_under_by, core_after_end, core_after_ending, core_after_error, core_after_take_over, core_taken_in}
 use Rattle.axis_core.specs.Cycles.{Advance, advance_in_cycle, advance_without_error, axis_after_braking, core_after_advance, core_after_answer, core_after_cycle, core_after_going_on, core_after_step}
 use Rattle.axis_core.specs.Drives.{answer_error_of, is_driven, new_error_of}
 use Rattle.axis_core.specs.blocks.Halts.{axis_after_stop, leaves_stopping}
@@ -55,23 +58,15 @@ failed_tells n c d h may =
     (all_told (Shows c n) n (record { active = d.axis.active; waiting = d.waiting })
     (λ k e. (may k e, refl)))
 
-answered_tells : (input : DriveIn) (d : Core) → d.notes ≡ [] →
-    Tells (command_state_of d) (core_after_answer input d)
-answered_tells input d e =
-    let n = answer_error_of d.axis input in
-    by_if (Tells (command_state_of d)) (nat_eq n 0) d (core_after_error n d)
-    (none_told (Shows (command_state_of d) d.axis.error) d e)
-    (failed_tells n (command_state_of d) d (none_told (Shows (command_state_of d) n) d e) (λ k h. inl h))
-
 -- the active command ends, and the first that waits takes over
 from_nothing : (P : ℕ → ℕ → Type 0) (d : Core) → AllTell Nothing d.notes → AllTell P d.notes
 from_nothing P d h = weaker Nothing P d.notes (λ k x n. absurd n) h
 
-taken_tells : (x : BlockKind) (t : Option ℤ) (w : Wanted) (c : CommandState) (d : Core) →
+taken_tells : (g : Goal) (t : Option ℤ) (w : Wanted) (c : CommandState) (d : Core) →
     ((k : ℕ) → owner_count k w.owner ≡ 1 → waits_first k c.waiting ≡ 1) → AllTell Nothing d.notes →
-    Tells c (core_taken_by x t w d)
+    Tells c (core_taken_in g t w d)
 unfolding axis_under_by
-taken_tells kind.MoveRelative None w c d first h =
+taken_tells (FromBefore base) None w c d first h =
     let target = d.axis.setpoint +ℤ position_of w in
     by_if (Tells c) (is_outside d.axis.limits.lo target d.axis.limits.hi)
     (core_after_error 106 (record d { axis = record d.axis { active = Some w } }))
@@ -79,14 +74,14 @@ taken_tells kind.MoveRelative None w c d first h =
     (failed_tells 106 c (record d { axis = record d.axis { active = Some w } })
     (from_nothing (Shows c 106) d h) (λ k e. inr (first k e, refl)))
     (from_nothing (Shows c d.axis.error) d h)
-taken_tells kind.MoveRelative (Some t) w c d first h = from_nothing (Shows c d.axis.error) d h
+taken_tells (FromBefore base) (Some t) w c d first h = from_nothing (Shows c d.axis.error) d h
 taken_tells _ t w c d first h = from_nothing (Shows c d.axis.error) d h
 
 over_tells : (ws : List Wanted) (c : CommandState) (d : Core) → c.waiting ≡ ws →
     AllTell Nothing d.notes → Tells c (core_after_take_over ws d)
 over_tells [] c d e h = from_nothing (Shows c d.axis.error) d h
 over_tells (w ∷ ws) c d e h =
-    taken_tells w.kind w.target w c (record d { waiting = ws })
+    taken_tells (profile_of w.kind).goal w.target w c (record d { waiting = ws })
     (λ k own. ap (waits_first k) e ∙ own) h
 
 ended_tells : (f : Finish) (d : Core) → IsPlain f → d.notes ≡ [] →

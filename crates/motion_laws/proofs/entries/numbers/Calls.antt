@@ -1,28 +1,17 @@
 -- Errors are reported as they are shown in a call.
 -- for: errors_have_causes, errors_are_told_as_shown
-use Rattle.std.specs.Prelude.{◌≡◌, ◌⊎◌, refl, ℕ, ◌<◌, Bool, true, false, Option, Some, None, List, [], length, slice_get}
+use Rattle.std.specs.Prelude.{◌≡◌, ◌⊎◌, refl, ℕ, ◌<◌, true, Some, List, [], length, slice_get}
 use Rattle.std.proofs.Common.{arith, ap, sym, subst, ◌∙◌, inl, inr}
-use Rattle.axis_core.specs.Calls.{axis_without_owner, core_after_admission, core_after_command, core_after_joining, core_after_power, core_after_verdict, core_with_queued}
-use Rattle.axis_core.specs.Cores as axis
-use Rattle.axis_core.specs.Cores.{axis_under_by}
-use Rattle.axis_core.specs.Refusals as axis_refusals
-use Rattle.axis_core.specs.Refusals.{Asked}
-use Rattle.axis_core.specs.blocks.Moves.{known_target_of, with_target}
-use Rattle.axis_core.specs.blocks.Path.{axis_on_path}
+use Rattle.axis_core.specs.Calls.{axis_without_owner}
 use Rattle.axis_core.specs.declared.axis.Axis.{Axis}
-use Rattle.axis_core.specs.declared.reason.Reason.{Reason}
 use Rattle.axis_state.specs.States.{is_error_stop}
-use Rattle.buffer_modes.specs.Queue.{end_notes, is_active_at_once}
-use Rattle.axis_core.specs.Calls.{queue_in}
+use Rattle.buffer_modes.specs.Queue.{end_notes}
 use Rattle.command_changes.specs.Failing.{failing}
 use Rattle.command_changes.specs.Group.{power_off_changes}
 use Rattle.command_core.specs.Changes.{Change, all_changed}
 use Rattle.command_core.specs.CommandState.{CommandState, queue_of}
 use Rattle.command_pool.specs.Waiting as waiting
-use Rattle.command_pool.specs.Waiting.{last_of}
 use Rattle.command_pool.specs.declared.ending.Finish.TheVariants as finish
-use Rattle.plc_types.specs.declared.kind.BlockKind.{BlockKind}
-use Rattle.plc_types.specs.declared.kind.BlockKind.TheVariants as kind
 use Rattle.command_pool.specs.declared.wanted.Wanted.{Wanted}
 use Rattle.plc_types.specs.declared.inputs.Inputs.{Inputs}
 use Rattle.plc_types.specs.declared.outputs.Outputs.{Outputs}
@@ -37,7 +26,6 @@ use Rattle.motion_history.specs.Setup.{Setup}
 use Rattle.motion_kernel.specs.Machine.{Machine, axis_at, axis_core_at, group_at, group_core_at}
 use Rattle.motion_kernel.specs.calls.Calls.{after_call}
 use Rattle.motion_kernel.specs.kept.Machine.{AreWhole, IsMachineKept}
-use Rattle.motion_kernel.proofs.Sizes.{by_if}
 use Rattle.motion_laws.specs.calls.Axis as on_axis
 use Rattle.motion_laws.specs.calls.Group.{by_call}
 use Rattle.motion_kernel.specs.calls.Requests.{machine_asked, request_of}
@@ -51,62 +39,28 @@ use Rattle.motion_laws.proofs.entries.numbers.Notes.{AllTell, Nothing, Shows, al
 use Rattle.motion_laws.proofs.entries.numbers.Quiet.{TellNone, axis_none, group_command, group_request, none_told}
 use Rattle.motion_kernel.proofs.owners.Blocks.{untold as nothing_told}
 use Rattle.motion_laws.proofs.walk.AxisCalls as axes
+use Rattle.motion_laws.proofs.walk.Stays.{Stance, command_stands, detached_stands, path_stands, power_stands}
 use Rattle.motion_kernel.proofs.walk.ByTest.{both}
 use Rattle.motion_laws.proofs.walk.GroupCalls as groups
 use Rattle.motion_kernel.proofs.walk.Keeps.{WalkLaws}
 
 -- a call leaves the error of an axis
-joined_error : (w : Wanted) (c : axis.Core) →
-    (core_after_joining w c).axis.error ≡ c.axis.error
-unfolding axis_under_by
-joined_error w c =
-    by_if (λ (x : axis.Core). x.axis.error ≡ c.axis.error) (is_active_at_once (queue_in c) w) _
-    (core_with_queued w c) refl refl
-
-admitted_error : (x : BlockKind) (w : Wanted) (c : axis.Core) →
-    (core_after_admission x w c).axis.error ≡ c.axis.error
-unfolding axis_under_by
-admitted_error kind.Reset w c = refl
-admitted_error kind.GearOut w c = refl
-admitted_error kind.CamOut w c = refl
-admitted_error _ w c = joined_error w c
-
-verdict_error : (r : Option Reason) (w : Wanted) (c : axis.Core) →
-    (core_after_verdict r w c).axis.error ≡ c.axis.error
-verdict_error None w c =
-    admitted_error w.kind (with_target (known_target_of c.axis (last_of c.waiting) w) w) c
-verdict_error (Some r) w c = refl
-
-command_error : (q : Asked) (c : axis.Core) → (core_after_command q c).axis.error ≡ c.axis.error
-unfolding core_after_command
-command_error q c = verdict_error (axis_refusals.refusal_of q) q.wanted c
-
-power_error : (enable : Bool) (c : axis.Core) →
-    (core_after_power enable c).axis.error ≡ c.axis.error
-unfolding core_after_power
-power_error true c = refl
-power_error false c =
-    by_if (λ (x : axis.Core). x.axis.error ≡ c.axis.error) (is_error_stop c.axis.state) _ _
-    refl refl
-
-path_error : (on : Bool) (a : Axis) → (axis_on_path on a).error ≡ a.error
-unfolding axis_on_path
-path_error on a = refl
-
-detached_error : (owner : ℕ) (a : Axis) → (axis_without_owner owner a).error ≡ a.error
-unfolding axis_without_owner
-detached_error owner a = refl
+abbrev error_of : Stance → ℕ
+error_of s = s.error
 
 axis_said : (a : Axis) (ws : List Wanted) →
     axes.IsByFate axes.AnyAsked a ws (λ f x us. x.error ≡ a.error)
 axis_said a ws = record {
   rests = refl;
   led = λ owner on. axes.path_led (λ (y : Axis). y.error ≡ a.error)
-      (λ by y e. path_error by y ∙ e) on (axis_without_owner owner a) (detached_error owner a);
-  detach = λ owner. detached_error owner a;
-  power = λ enable c e us. power_error enable c ∙ ap (λ (x : Axis). x.error) e;
+      (λ by y e. ap error_of (path_stands by y) ∙ e) on (axis_without_owner owner a)
+      (ap error_of (detached_stands owner a));
+  detach = λ owner. ap error_of (detached_stands owner a);
+  power = λ enable c e us.
+      ap error_of (power_stands enable c) ∙ ap (λ (x : Axis). x.error) e;
   command = λ owner q c e us well.
-      command_error q c ∙ ap (λ (x : Axis). x.error) e ∙ detached_error owner a;
+      ap error_of (command_stands q c) ∙ ap (λ (x : Axis). x.error) e
+      ∙ ap error_of (detached_stands owner a);
 }
 
 pub axis_error : (s : Setup) (m : Machine) (k : ℕ) (i : Inputs) (n : ℕ) → IsMachineKept s m →

@@ -1,15 +1,20 @@
 -- Each end that an axis gives has an error's number, where it is an error.
 -- for: replies_tell_one_result, replies_show_commands, results_are_told and others
-use Rattle.std.specs.Prelude.{◌≡◌, refl, ℕ, Bool, true, false, ◌&&◌, ◌||◌, nat_eq, ℤ, ◌-ℤ◌, if◌then◌else◌, Option, Some, None, Result, Ok, Err, List, [], ◌∷◌, ◌++◌, slice_get}
+use Rattle.std.specs.Prelude.{◌≡◌, refl, ℕ, Bool, true, false, ◌&&◌, ◌||◌, nat_eq, ℤ, ◌-ℤ◌, Option, Some, None, is_some, Result, Ok, Err, List, [], ◌∷◌, ◌++◌, slice_get}
+use Rattle.std.proofs.Common.{ap}
+use Rattle.axis_core.specs.declared.profile.Goal.{Goal}
+use Rattle.axis_core.specs.declared.profile.Goal.TheVariants.{FromBefore}
+use Rattle.axis_core.proofs.AxisWalk.{by-test}
 use Rattle.axis_core.specs.Calls.{core_after_admission, core_after_command, core_after_joining, core_after_leaving, core_after_power, core_after_verdict, queue_in}
-use Rattle.axis_core.specs.Cores.{Core, core_after_end, core_after_ending, core_after_error, core_after_take_over, core_taken_by, core_under_from}
+use Rattle.axis_core.specs.Cores.{Core, core_after_end, core_after_ending, core_after_error, core_after_take_over, core_taken_in}
 use Rattle.axis_core.specs.Cycles.{Advance, advance_by_command, advance_by_progress, advance_in_cycle, advance_without_error, core_after_answer, core_after_cycle, core_after_step, progress_by_step}
-use Rattle.axis_core.specs.Drives.{answer_error_of, has_fault, is_driven, new_error_of}
-use Rattle.axis_core.specs.Kinds.{ending_by, wish_by}
+use Rattle.axis_core.specs.Drives.{answer_error_of, is_driven}
+use Rattle.axis_core.specs.Kinds.{end_by, wish_by, wish_in}
+use Rattle.axis_core.specs.Profiles.{profile_of}
 use Rattle.axis_core.specs.Refusals as axis_refusals
 use Rattle.axis_core.specs.Refusals.{Asked}
 use Rattle.axis_state.specs.States.{is_error_stop}
-use Rattle.axis_core.specs.Steps.{ends_where, is_braking, is_safe_step, old_step_of, step_for_wish, step_toward, wish_within_limits}
+use Rattle.axis_core.specs.Steps.{is_braking, is_safe_step, old_step_of, step_for_wish, step_toward, wish_within_limits}
 use Rattle.axis_core.specs.blocks.Cam.{cam_wish_where}
 use Rattle.axis_core.specs.blocks.Gear.{gear_step_of}
 use Rattle.axis_core.specs.blocks.Moves.{known_target_of, target_of, with_target}
@@ -17,6 +22,10 @@ use Rattle.axis_core.specs.blocks.Path.{place_on_path}
 use Rattle.axis_core.specs.blocks.Reset as axis_reset
 use Rattle.axis_core.specs.blocks.Velocity.{step_to_velocity}
 use Rattle.axis_core.specs.declared.axis.Axis.{Axis}
+use Rattle.axis_core.specs.declared.profile.Closes.{Closes}
+use Rattle.axis_core.specs.declared.profile.Closes.TheVariants.{Never, AtOnce, WhenDone, ForNext}
+use Rattle.axis_core.specs.declared.profile.Manner.{Manner}
+use Rattle.axis_core.specs.declared.profile.Manner.TheVariants.{Runs, Gears, Cams}
 use Rattle.buffer_modes.specs.Resets.{replaced_note}
 use Rattle.buffer_modes.specs.declared.reset.PendingReset.{PendingReset}
 use Rattle.axis_core.specs.declared.look.AxisLook.{AxisLook}
@@ -36,8 +45,10 @@ use Rattle.follow_plan.specs.Gear.{gear_toward_of}
 use Rattle.group_core.specs.Refusals as group_refusals
 use Rattle.group_core.specs.declared.reason.Reason as group_reason
 use Rattle.group_core.specs.declared.reason.Reason.TheVariants as group_reasons
-use Rattle.motion_numbers.specs.Ranges.{is_outside}
 use Rattle.motion_kernel.proofs.Sizes.{by_if}
+use Rattle.motion_laws.proofs.causes.Answers.{answer_brings}
+use Rattle.motion_laws.specs.causes.Axis.{AnswerBrings}
+use Rattle.motion_laws.specs.causes.Axis as brings
 
 -- each note of an end by an error has its number
 abbrev pub AreNumbered : List Note → Type 0
@@ -135,25 +146,12 @@ abbrev IsWish : Result ℤ ℕ → Type 0
 IsWish (Ok step) = Unit {0}
 IsWish (Err n) = is_error_number n ≡ true
 
-done_well : (b : Bool) → EndsWell (ends_where b finish.Done)
-done_well true = tt
-done_well false = tt
-
-aborted_well : (b : Bool) → EndsWell (ends_where b finish.Aborted)
-aborted_well true = tt
-aborted_well false = tt
-
-ends_well : (k : BlockKind) (a : Axis) (w : Wanted) (next : Option Wanted) (step : ℤ)
-    (look : AxisLook) → EndsWell (ending_by k a w next step look)
-ends_well kind.MoveAbsolute a w next step look = done_well _
-ends_well kind.MoveRelative a w next step look = done_well _
-ends_well kind.Halt a w next step look = done_well _
-ends_well kind.Stop a w next step look = done_well _
-ends_well kind.Home a w next step look = tt
-ends_well kind.MoveVelocity a w next step look = aborted_well _
-ends_well kind.GearIn a w next step look = aborted_well _
-ends_well kind.CamIn a w next step look = aborted_well _
-ends_well _ a w next step look = tt
+ends_well : (x : Closes) (next : Option Wanted) (holds : Bool) → EndsWell (end_by x next holds)
+ends_well Never next holds = tt
+ends_well AtOnce next holds = tt
+ends_well WhenDone next holds = by_if EndsWell holds (Some finish.Done) None tt tt
+ends_well ForNext next holds =
+    by_if EndsWell (is_some next && holds) (Some finish.Aborted) None tt tt
 
 limited_wish : (a : Axis) (step : ℤ) → IsWish (wish_within_limits a step)
 limited_wish a step = by_if IsWish (is_braking (old_step_of a) step || is_safe_step a step)
@@ -164,30 +162,26 @@ cam_wish true a w cam = tt
 cam_wish false a w cam = by_if IsWish a.reached (Err 104)
     (wish_within_limits a (step_toward a cam w)) refl (limited_wish a (step_toward a cam w))
 
-is_wish : (k : BlockKind) (a : Axis) (w : Wanted) (next : Option Wanted) (look : AxisLook) → IsWish
-    (wish_by k a w next look)
-is_wish kind.MoveAbsolute a w next look = tt
-is_wish kind.MoveRelative a w next look = tt
-is_wish kind.Halt a w next look = tt
-is_wish kind.Stop a w next look = tt
-is_wish kind.MoveVelocity a w next look = limited_wish a (step_to_velocity a w.rates.v w)
-is_wish kind.GearIn a w next look = limited_wish a
+is_wish : (m : Manner) (a : Axis) (w : Wanted) (next : Option Wanted) (look : AxisLook) →
+    IsWish (wish_in m a w next look)
+is_wish Runs a w next look = limited_wish a (step_to_velocity a w.rates.v w)
+is_wish Gears a w next look = limited_wish a
     (step_to_velocity a (gear_toward_of (gear_step_of w.follow look.master) a.limits.vmax) w)
-is_wish kind.CamIn a w next look = cam_wish (is_safe_step a (look.cam -ℤ a.setpoint)) a w look.cam
+is_wish Cams a w next look = cam_wish (is_safe_step a (look.cam -ℤ a.setpoint)) a w look.cam
 is_wish _ a w next look = tt
 
 wished_well : (wish : Result ℤ ℕ) (w : Wanted) (next : Option Wanted) (look : AxisLook) (a : Axis) →
     IsWish wish →
     EndsWell (advance_by_progress w.kind (target_of w) a
     (progress_by_step a w next look (step_for_wish a wish))).ending
-wished_well (Ok step) w next look a i = ends_well w.kind a w next _ look
+wished_well (Ok step) w next look a i = ends_well (profile_of w.kind).closes next _
 wished_well (Err n) w next look a i = i
 
 commanded_well : (active next : Option Wanted) (look : AxisLook) (a : Axis) → EndsWell
     (advance_by_command active next look a).ending
 commanded_well None next look a = tt
 commanded_well (Some w) next look a = wished_well (wish_by w.kind a w next look) w next look a
-    (is_wish w.kind a w next look)
+    (is_wish (profile_of w.kind).manner a w next look)
 
 placed_well : (o : Option ℤ) (next : Option Wanted) (look : AxisLook) (a : Axis) → EndsWell
     (advance_without_error o next look a).ending
@@ -202,21 +196,18 @@ advances_well next look a =
     (placed_well (place_on_path a look) next look a)
 
 -- the ends of a cycle of an axis
-from_told : (w : Wanted) (t : ℤ) (c : Core) → TellsNumbers c → TellsNumbers (core_under_from w t c)
-from_told w t c h =
-    by_if TellsNumbers (is_outside c.axis.limits.lo t c.axis.limits.hi) _ _
+taken_told : (g : Goal) (t : Option ℤ) (w : Wanted) (c : Core) → TellsNumbers c → TellsNumbers
+    (core_taken_in g t w c)
+taken_told (FromBefore base) None w c h =
+    by_if TellsNumbers _ _ _
     (failed_told 106 (record c { axis = record c.axis { active = Some w } }) refl h) h
-
-taken_told : (k : BlockKind) (t : Option ℤ) (w : Wanted) (c : Core) → TellsNumbers c → TellsNumbers
-    (core_taken_by k t w c)
-taken_told kind.MoveRelative None w c h = from_told w _ c h
-taken_told kind.MoveRelative (Some t) w c h = h
+taken_told (FromBefore base) (Some t) w c h = h
 taken_told _ t w c h = h
 
 over_told : (ws : List Wanted) (c : Core) → TellsNumbers c → TellsNumbers
     (core_after_take_over ws c)
 over_told [] c h = h
-over_told (w ∷ ws) c h = taken_told w.kind w.target w (record c { waiting = ws }) h
+over_told (w ∷ ws) c h = taken_told (profile_of w.kind).goal w.target w (record c { waiting = ws }) h
 
 end_told : (f : Finish) (c : Core) → HasNumber f → TellsNumbers c → TellsNumbers
     (core_after_end f c)
@@ -242,32 +233,20 @@ step_told look driven c h =
 abbrev pub IsNumberOrNone : ℕ → Type 0
 IsNumberOrNone n = nat_eq n 0 ≡ false → is_error_number n ≡ true
 
-chosen : (x y z : Bool) → IsNumberOrNone
-    (if x then 101 else if y then 102 else if z then 105 else 0)
-chosen true y z h = refl
-chosen false true z h = refl
-chosen false false true h = refl
-chosen false false false h = absurd (cc)
-
-skipped : (b : Bool) (n : ℕ) → IsNumberOrNone n → IsNumberOrNone (if b then 0 else n)
-skipped true n i h = absurd (cc)
-skipped false n i h = i h
+brought_number : (a : Axis) (d : DriveIn) (n : ℕ) → AnswerBrings a d n → is_error_number n ≡ true
+brought_number a d n (brings.fault e h) = ap is_error_number e
+brought_number a d n (brings.lost e h) = ap is_error_number e
+brought_number a d n (brings.outside e h) = ap is_error_number e
 
 pub answer_numbered : (a : Axis) (input : DriveIn) → IsNumberOrNone (answer_error_of a input)
-unfolding answer_error_of
-answer_numbered a input = skipped (is_error_stop a.state) (new_error_of a input)
-    (chosen (has_fault input) _ _)
-
--- where a test is false, what it leaves out needs its fact alone
-told_where : (b : Bool) (c d : Core) → TellsNumbers c → (b ≡ false → TellsNumbers d) → TellsNumbers
-    (if b then c else d)
-told_where true c d h k = h
-told_where false c d h k = k refl
+answer_numbered a input some =
+    brought_number a input (answer_error_of a input) (answer_brings a input some)
 
 answer_told : (input : DriveIn) (c : Core) → TellsNumbers c → TellsNumbers
     (core_after_answer input c)
 answer_told input c h =
-    told_where (nat_eq (answer_error_of c.axis input) 0) c _ h
+    by-test TellsNumbers (nat_eq (answer_error_of c.axis input) 0) c
+    (core_after_error (answer_error_of c.axis input) c) (λ e. h)
     (λ e. failed_told (answer_error_of c.axis input) c (answer_numbered c.axis input e) h)
 
 done_told : (o : Option PendingReset) (input : DriveIn) (a : Axis) → AreNumbered

@@ -15,12 +15,11 @@ use Rattle.motion_history.specs.Setup.{Setup}
 use Rattle.motion_history.specs.declared.config.BlockDef.{BlockDef}
 use Rattle.motion_kernel.specs.calls.Calls.{with_execute, with_instance}
 use Rattle.motion_kernel.specs.Machine.{Machine, instance_at}
-use Rattle.motion_kernel.proofs.Sizes.{sized_instance}
 use Rattle.motion_kernel.specs.owners.Commands.{CommandsAreShown, commands_shown}
 use Rattle.motion_kernel.specs.owners.Objects.{Object, has_commands_on, is_same, object_of}
 use Rattle.motion_kernel.proofs.owners.Counts.{shown_by}
 use Rattle.motion_kernel.proofs.owners.commands.Asked.{same_commands, all_shown}
-use Rattle.motion_kernel.proofs.owners.commands.Events.{not_shown, none_beside, instances_shown, IsGood}
+use Rattle.motion_kernel.proofs.owners.commands.Events.{not_shown, none_beside, instances_shown}
 use Rattle.motion_kernel.proofs.owners.commands.Freed.{beside_own}
 use Rattle.motion_kernel.proofs.walk.Events.{there_same}
 
@@ -69,10 +68,6 @@ power_shown s k b m v at power h =
     (same_commands m (slice_set m.instances k v) k o ∙ not_shown
     (has_commands_on (slice_get s.blocks k) o) _ _ off (h k o there)))
     (λ j d. beside_own s j k m v d (h j))
-
-pub power_execute : (s : Setup) (k : ℕ) (b : BlockDef) (m : Machine) (v : InstanceState) → slice_get s.blocks k ≡ Some b →
-    is_power b.kind ≡ true → IsGood s m → IsGood s (with_instance m k v)
-power_execute s k b m v at power h = record { sized = sized_instance s m k v h.sized; shown = power_shown s k b m v at power h.shown }
 
 -- a call that asks no command takes Execute
 edge_shown : (s : Setup) (e : Edge) (k : ℕ) (i : Inputs) (m : Machine) → edge_of (instance_at m.instances k).execute i.execute ≡ e →

@@ -1,6 +1,9 @@
 -- A command is Done in a cycle alone, and where it is the active one or a reset.
--- for: moves_arrive_in_time, paths_end_in_time, replies_show_commands and others
+-- for: machines_can_stand, moves_arrive_in_time, paths_end_in_time and others
 use Rattle.std.specs.Prelude.{ℕ, Bool, true, false, not, ◌&&◌, nat_eq, ℤ, ◌+ℤ◌, if◌then◌else◌, Option, Some, None, is_some, List, [], ◌∷◌, ◌++◌, slice_get}
+use Rattle.axis_core.specs.declared.profile.Goal.{Goal}
+use Rattle.axis_core.specs.declared.profile.Goal.TheVariants.{FromBefore}
+use Rattle.axis_core.specs.Profiles.{profile_of}
 use Rattle.axis_core.specs.Calls as axis_calls
 use Rattle.axis_core.specs.Cores as axes
 use Rattle.axis_core.specs.Cycles.{advance_in_cycle, core_after_advance, core_after_answer, core_after_step}
@@ -63,14 +66,14 @@ axis_power true c = tt
 axis_power false c = by_if EndsNoneDone (is_error_stop c.axis.state) [] _ tt tt
 
 -- a cycle
-axis_taking : (x : BlockKind) (t : Option ℤ) (f : Finish) (w : Wanted) (a : Axis) → HasOneEnd (axis.taking_changes x t f w a)
-axis_taking kind.MoveRelative None f w a = by_if HasOneEnd (is_outside a.limits.lo (a.setpoint +ℤ position_of w) a.limits.hi) _ _ tt tt
-axis_taking kind.MoveRelative (Some t) f w a = tt
+axis_taking : (g : Goal) (t : Option ℤ) (f : Finish) (w : Wanted) (a : Axis) → HasOneEnd (axis.taking_changes_in g t f w a)
+axis_taking (FromBefore base) None f w a = by_if HasOneEnd (is_outside a.limits.lo (a.setpoint +ℤ position_of w) a.limits.hi) _ _ tt tt
+axis_taking (FromBefore base) (Some t) f w a = tt
 axis_taking _ t f w a = tt
 
 axis_ended : (f : Finish) (ws : List Wanted) (a : Axis) → HasOneEnd (axis.ended_changes f ws a)
 axis_ended f [] a = tt
-axis_ended f (w ∷ ws) a = axis_taking w.kind w.target f w a
+axis_ended f (w ∷ ws) a = axis_taking (profile_of w.kind).goal w.target f w a
 
 axis_ending : (o : Option Finish) (ws : List Wanted) (a : Axis) → HasOneEnd (axis.ending_changes o ws a)
 axis_ending None ws a = tt

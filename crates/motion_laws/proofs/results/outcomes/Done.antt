@@ -1,5 +1,5 @@
 -- Which changes report an instance that its command is Done.
--- for: moves_arrive_in_time, paths_end_in_time, replies_show_commands and others
+-- for: machines_can_stand, moves_arrive_in_time, paths_end_in_time and others
 use Rattle.std.specs.Prelude.{◌≡◌, ◌≢◌, ℕ, Bool, true, false, nat_eq, ℤ, if◌then◌else◌, Option, Some, None, List, [], ◌∷◌, ◌++◌}
 use Rattle.std.specs.List.{AllByRecursion}
 use Rattle.std.proofs.Common.{arith, ap, sym, ◌∙◌, inl, inr}

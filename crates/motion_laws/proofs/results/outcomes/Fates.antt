@@ -1,5 +1,5 @@
 -- How the active command of an axis or a group ends by its effect is how it ends by its fate.
--- for: moves_arrive_in_time, paths_end_in_time, replies_show_commands and others
+-- for: machines_can_stand, moves_arrive_in_time, paths_end_in_time and others
 use Rattle.std.specs.Prelude.{◌≡◌, refl, Bool, true, false, if◌then◌else◌, Option, Some, None, List, [], ◌∷◌, ◌++◌, is_some, slice_get}
 use Rattle.std.proofs.Common.{◌∙◌, sym}
 use Rattle.axis_core.specs.Cores as axis_cores

@@ -1,5 +1,5 @@
 -- No call ends the active command of an axis or a group Done.
--- for: moves_arrive_in_time, paths_end_in_time, replies_show_commands and others
+-- for: machines_can_stand, moves_arrive_in_time, paths_end_in_time and others
 use Rattle.std.specs.Prelude.{◌≢◌, ℕ, Bool, true, false, if◌then◌else◌, Option, Some, None, List, [], ◌∷◌, slice_get}
 use Rattle.std.proofs.Common.{◌∙◌}
 use Rattle.axis_core.specs.Cores as axes

@@ -72,7 +72,7 @@ returns-clause-meets g c =
     c.finish_drives.new.logs.items c.close-kernel.result
     s c.end_all.ensures.ended l.1 (l.0 ∙ n) c.finish_tasks.ensures.joined
     c.close-kernel.ensures.closed c.args.jobs.seats.items c.finish_tasks.ensures.tasks
-    c.history.ensures.legal (c.histories_keep_their_laws.ensures _ _ c.history.ensures.setup
+    c.history.ensures.legal (c.histories_keep_the_headline.ensures _ _ c.history.ensures.setup
     c.history.ensures.whole c.history.ensures.legal) c.requires.own.4
 
 pub returns-clause-config : goal.returns-clause-config

@@ -92,7 +92,7 @@ fn texts_that_are_cut_short(rt: HostRuntime) -> Result<(), Fail> {
 #[test]
 fn traces_with_a_damaged_record(rt: HostRuntime) -> Result<(), Fail> {
     let cases: [(u64, &[u8], &[u8]); 2] = [
-        (2, b"trace,3,bench,20,40,,,,,,,", b"refused text 2 T2\n"),
+        (2, b"trace,4,bench,20,40,,,,,,,", b"refused text 2 T2\n"),
         (
             5,
             b"block,M,main,MoveAbsolute,X,,,,,,",

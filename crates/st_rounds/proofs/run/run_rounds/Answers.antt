@@ -51,4 +51,4 @@ returns-clause-legal c =
     ∙ ap (drives_at_opening p.config.axes) c.as_slice.ensures)
     (subst (AreOpened p.code) (sym c.as_mut_slice-2.ensures.value) c.in_ok-players.ensures)
     c.make_rounds-ending.ensures.made)
-    c.histories_are_legal.ensures.legal c.histories_are_legal.ensures.laws
+    c.histories_are_legal.ensures.legal c.histories_are_legal.ensures.motion

@@ -16,15 +16,15 @@ returns-in-Cycle-clause-count c = λ e kept is.
     let b : length c.groups.result.now ≡ length c.args.trace.now.config.groups = ap length c.groups.ensures ∙ ap (λ (s : Setup). length s.groups) c.config-in-Cycle.ensures in
     let axes = read.axes in
     let groups = read.groups in
-    let count = count-cycle c.args.trace.now.config (record { number = c.in-Cycle.number; axes = c.in-Cycle.axes.now; groups = c.in-Cycle.groups.now; places = f.places }) in
+    let count = count-cycle c.args.trace.now.version c.args.trace.now.config (record { number = c.in-Cycle.number; axes = c.in-Cycle.axes.now; groups = c.in-Cycle.groups.now; places = f.places }) in
     rw f.is (omega (arith, count, a, b, axes, groups))
 
 pub returns-in-Call-clause-count : goal.returns-in-Call-clause-count
 returns-in-Call-clause-count c = λ e kept is.
     let none : cycle_count (entry_of e) ≡ 0 = rw (← is, c.in-Call.is) refl in
-    count-event c.args.trace.now.config e none
+    count-event c.args.trace.now.version c.args.trace.now.config e none
 
 pub returns-in-End-clause-count : goal.returns-in-End-clause-count
 returns-in-End-clause-count c = λ e kept is.
     let none : cycle_count (entry_of e) ≡ 0 = rw (← is, c.in-End.is) refl in
-    count-event c.args.trace.now.config e none
+    count-event c.args.trace.now.version c.args.trace.now.config e none

@@ -1,15 +1,15 @@
--- A trace was written in version 2, or there was no memory for it.
+-- A trace was written again, or there was no memory for it.
 use Rattle.std.specs.Prelude.{None, length}
 use Rattle.std.proofs.Common.{◌≡◌, ◌∙◌, ap, refl, subst, sym}
 use Rattle.motion_history.specs.Setup.{Setup}
-use Rattle.motion_history.specs.declared.refused.TraceVersion.TheVariants.{Two}
 use Rattle.trace_check.specs.Legal.{IsLegalTrace}
 use Rattle.trace_check.specs.Outcomes.{IsReplayed}
 use Rattle.trace_check.specs.declared.replaying.Replayed.TheVariants as replay
+use Rattle.trace_check.proofs.HeldLaws.{migrated-holds}
 use Rattle.trace_check.proofs.LegalLaws.{legal-held}
 use Rattle.trace_text.specs.TraceKept.{IsTraceKept}
 use Rattle.trace_jobs.specs.Plans.{plan_of_migrate}
-use Rattle.trace_text.specs.Trace.{trace_text}
+use Rattle.trace_text.specs.Trace.{CanHold, trace_text}
 use Rattle.trace_text.specs.writing.Writes.{Output, Writes}
 use Rattle.job_ends.proofs.PlanLaws.{early}
 use Rattle.job_ends.specs.Ends.{EndsBy}
@@ -19,6 +19,12 @@ use Rattle.job_ends.specs.declared.status.Status.TheVariants as status
 use Rattle.trace_jobs.proofs.EndLaws.{verifies-fair, verifies-other, verifies-unfair, migrating, not-by}
 use Rattle.trace_jobs.proofs.HistoryLaws.{history_is}
 use Rattle.trace_jobs.proofs.traces.migrate_trace.Goals as goal
+
+pub write_trace-written-requires-clause-version : goal.write_trace-written-requires-clause-version
+write_trace-written-requires-clause-version g c =
+    subst (λ s. CanHold c.version_again.result s) (sym c.config.ensures)
+    (subst (λ v. CanHold v c.args.trace.now.config) (sym c.version_again.ensures)
+    (migrated-holds c.args.trace.now))
 
 pub write_trace-written-requires-clause-drives : goal.write_trace-written-requires-clause-drives
 write_trace-written-requires-clause-drives g c =
@@ -69,7 +75,7 @@ returns-in-Ok-Legal-clause-ends g c = λ whole held.
     (record {
       written = c.write_trace-written.result;
       writes = subst (λ x. Writes old new x c.write_trace-written.result)
-          (λ i. trace_text Two (c.command.ensures i) (c.config.ensures i) (history i)
+          (λ i. trace_text (c.version_again.ensures i) (c.command.ensures i) (c.config.ensures i) (history i)
           (c.drives.ensures.items i)) c.write_trace-written.ensures;
       status = c.status_by.ensures;
     })

@@ -10,5 +10,5 @@ use Rattle.trace_text.proofs.reading.events.call_of.Goals as goal
 pub returns : goal.returns
 unfolding call_meaning
 returns c =
-    let P : List (List ℕ) → Type 0 = λ t. Gives {X = FoundEntry} {Y = FoundEntry} (λ e. e) (call_meaning c.args.machine.now t) c.call_by.result in
+    let P : List (List ℕ) → Type 0 = λ t. Gives {X = FoundEntry} {Y = FoundEntry} (λ e. e) (call_meaning c.args.version c.args.machine.now t) c.call_by.result in
     subst P (sym (texts-eleven c.args.fields.now c.in-len11.len_at_least c.in-len11.len_below)) c.call_by.ensures

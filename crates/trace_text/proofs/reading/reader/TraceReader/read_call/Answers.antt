@@ -9,5 +9,5 @@ use Rattle.trace_text.proofs.reading.reader.TraceReader.read_call.Goals as goal
 
 pub returns : goal.returns
 returns c =
-    let P : SoFar → Type 0 = λ s. Takes (with_entry s (call_meaning s.setup (texts c.args.fields.now))) c.push.new.self c.push.result in
+    let P : SoFar → Type 0 = λ s. Takes (with_entry s (call_meaning s.version s.setup (texts c.args.fields.now))) c.push.new.self c.push.result in
     subst P c.self.view_is (c.push.ensures _ c.call_of-entry.ensures)

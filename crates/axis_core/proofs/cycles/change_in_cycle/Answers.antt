@@ -16,7 +16,7 @@ use Rattle.axis_core.proofs.KeptCycles.{IsSeen, cycled-kept, cycle-made, drive-b
 use Rattle.axis_core.proofs.KeptMoves.{Laws}
 use Rattle.axis_core.proofs.NoteCounts.{answered-count, run-count}
 use Rattle.axis_core.proofs.OneStep.{may-end, ran-made}
-use Rattle.axis_core.proofs.cycles.go_through.Goals as goal
+use Rattle.axis_core.proofs.cycles.change_in_cycle.Goals as goal
 
 pub is_driven-driven-requires : goal.is_driven-driven-requires
 is_driven-driven-requires c = drive-by c.offsets_are_small.ensures c.args.axis.now c.requires.kept.axis.base

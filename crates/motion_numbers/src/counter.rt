@@ -1,18 +1,18 @@
-// A counter of looks at the way to rest, which is there for proofs and takes no bytes.
+// A counter, which is there for proofs and takes no bytes.
 ghost use Rattle.std.specs.Prelude.{◌≡◌, ℕ, ◌+◌, ◌<◌};
 
 use std::marker::Model;
 use std::sync::ledger::{Blank, Book, Ledger, Share};
 
-/// How many looks at the way to rest have been taken so far; a look is one call of
-/// [`way_to_rest`](crate::way_to_rest), which counts itself.
+/// How often a thing was done so far. What is counted counts itself, so that a contract can say how
+/// often a call does it at most.
 #[derive(Drop)]
-pub struct Looks<L: Ledger> {
+pub struct Counter<L: Ledger> {
     book: Book<L>,
     share: Share<L>,
 }
 
-impl<L: Ledger> Model for Looks<L> {
+impl<L: Ledger> Model for Counter<L> {
     ghost Value = { ℕ };
 
     ghost view = { λ s. s.book.total };
@@ -20,7 +20,7 @@ impl<L: Ledger> Model for Looks<L> {
     ghost invariant = { λ s. 0 < s.share.parts };
 }
 
-impl<L: Ledger> Looks<L> {
+impl<L: Ledger> Counter<L> {
     /// A counter that stands at 0.
     pub fn open(blank: Blank) -> Self
         requires name { blank.name ≡ L.name }
@@ -29,11 +29,11 @@ impl<L: Ledger> Looks<L> {
         ensures { result ≡ 0 }
     {
         let (book, share) = blank.open::<L>();
-        Looks { book, share }
+        Counter { book, share }
     }
 
-    /// Counts one look more.
-    pub(crate) fn tick(&mut self)
+    /// Counts one more.
+    pub fn tick(&mut self)
         ensures { self.new ≡ self.old + 1 }
     {
         self.book.add(&mut self.share, 1);

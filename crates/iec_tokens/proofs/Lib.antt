@@ -1,0 +1,4 @@
+mod NameLemmas
+mod Numbers
+mod Passed
+mod Written

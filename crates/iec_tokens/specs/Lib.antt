@@ -1,0 +1,14 @@
+pub mod Bytes
+pub mod Comments
+pub mod Digits
+pub mod Left
+pub mod Lexemes
+pub mod NameBytes
+pub mod Names
+pub mod Numbers
+pub mod ReadBack
+pub mod Signs
+pub mod Times
+pub mod Tokens
+pub mod TokensLeft
+pub mod Words
