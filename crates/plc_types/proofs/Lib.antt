@@ -1,3 +1,4 @@
 pub mod KindNameLaws
+pub mod EveryKind
 pub mod NameLemmas
 pub mod CountLemmas
