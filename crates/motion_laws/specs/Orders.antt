@@ -1,6 +1,6 @@
 -- What a command of an axis was asked for, as long as it waits or is active (PLCopen Motion Control
 -- Part 1).
-use Rattle.std.specs.Prelude.{◌≡◌, ℕ, Bool, true, false, nat_lt, Option, Some, List, length, slice_get}
+use Rattle.std.specs.Prelude.{◌≡◌, ℕ, Bool, true, false, not, nat_lt, Option, Some, List, length, slice_get}
 use Rattle.std.specs.List.{AllByRecursion}
 use Rattle.axis_core.specs.Demands.{asked_target}
 use Rattle.axis_core.specs.Profiles.{profile_of}
@@ -10,8 +10,9 @@ use Rattle.axis_core.specs.blocks.Cam.{is_no_table}
 use Rattle.axis_core.specs.blocks.Gear.{is_master}
 use Rattle.axis_core.specs.declared.axis.Axis.{Axis}
 pub use Rattle.buffer_modes.specs.Queue.{is_aborting}
+use Rattle.plc_types.specs.Inputs.{takes}
+use Rattle.plc_types.specs.declared.inputs.Input.TheVariants as input
 use Rattle.plc_types.specs.declared.kind.BlockKind.{BlockKind}
-use Rattle.plc_types.specs.declared.kind.BlockKind.TheVariants as kind
 use Rattle.command_pool.specs.declared.wanted.Follow.{Follow}
 use Rattle.command_pool.specs.declared.wanted.Follow.TheVariants as follow
 use Rattle.command_pool.specs.declared.wanted.Wanted.{Wanted}
@@ -19,14 +20,12 @@ use Rattle.fb_outputs.specs.Steps.{is_stop}
 use Rattle.motion_history.specs.Setup.{Setup}
 use Rattle.motion_history.specs.declared.config.BlockDef.{BlockDef}
 
--- whether whom a command follows goes with its kind. MC_GearIn and MC_CamIn
+-- whether whom a command follows goes with its kind: by a gear where it takes a ratio, by a cam
+-- where it takes a table, and nobody where it takes no master. MC_GearIn and MC_CamIn
 abbrev pub is_follow_of : BlockKind → Follow → Bool
-is_follow_of kind.GearIn (follow.Gear master n d) = true
-is_follow_of kind.CamIn (follow.Cam master table) = true
-is_follow_of kind.GearIn f = false
-is_follow_of kind.CamIn f = false
-is_follow_of k follow.None = true
-is_follow_of k f = false
+is_follow_of k (follow.Gear master n d) = takes k input.Numerator
+is_follow_of k (follow.Cam master table) = takes k input.Table
+is_follow_of k follow.None = not (takes k input.Master)
 
 -- whether there is an axis of its master's number
 abbrev pub has_master : ℕ → Follow → Bool

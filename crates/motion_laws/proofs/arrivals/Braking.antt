@@ -1,8 +1,8 @@
 -- The axes of a group slow down along its path under a GroupHalt and a GroupStop.
 -- for: rows_follow_lines
-use Rattle.std.specs.Prelude.{◌≡◌, ◌≢◌, refl, ℕ, ◌<◌, ℤ, ◌≤ℤ◌, ◌+ℤ◌, pos, Bool, true, false, ◌&&◌, not, nat_eq, if◌then◌else◌, Option, Some, None, List, ◌∷◌, ◌++◌, length, slice_get}
+use Rattle.std.specs.Prelude.{◌≡◌, ◌≢◌, refl, ℕ, ◌<◌, ℤ, ◌≤ℤ◌, ◌+ℤ◌, pos, Bool, true, false, nat_eq, if◌then◌else◌, Some, None, List, ◌∷◌, length, slice_get}
 use Rattle.std.specs.Int.{int_min}
-use Rattle.std.proofs.Common.{arith, ap, subst, sym, ◌∙◌}
+use Rattle.std.proofs.Common.{arith, ap, subst, ◌∙◌}
 use Rattle.std.proofs.lemmas.Int.{ints, clamps}
 use Rattle.plc_types.specs.declared.axis.AxisRow.{AxisRow}
 use Rattle.buffer_modes.specs.Fates.{replaced}
@@ -15,7 +15,7 @@ use Rattle.group_core.proofs.StepLaws.{active-runs, braking-step-is, path-by}
 use Rattle.group_core.proofs.TargetLaws.{lives-active, no-error}
 use Rattle.group_core.specs.Cores.{Core}
 use Rattle.group_core.specs.Courses.{course_by, course_of, slowing}
-use Rattle.group_core.specs.Cycles.{ending_of, path_taken}
+use Rattle.group_core.specs.Cycles.{ending_of}
 use Rattle.group_core.specs.Fates.{cycle_fate, ending_fate, is_failing}
 use Rattle.group_core.specs.GroupKept.{AreNumbers, IsCoreKept, IsDeceleration}
 use Rattle.group_core.specs.Kinds.{step_by}
@@ -42,7 +42,7 @@ use Rattle.motion_laws.proofs.Histories.{past_kept, past_so_far}
 use Rattle.motion_laws.proofs.arrivals.Along.{AlongLaws}
 use Rattle.motion_laws.proofs.arrivals.PathsDone.{GoesBy, IsTakenOn, goes_by}
 use Rattle.motion_laws.proofs.arrivals.Slowing.{slows_by}
-use Rattle.motion_laws.specs.arrivals.Braking.{GoesOnTo, GroupHaltsSlow, SlowsAlong}
+use Rattle.motion_laws.specs.arrivals.Braking.{GroupHaltsSlow, SlowsAlong}
 use Rattle.motion_laws.specs.arrivals.Slowing.{Slows}
 
 -- what slows brakes the path by its deceleration, which is in its range

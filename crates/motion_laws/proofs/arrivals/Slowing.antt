@@ -1,27 +1,34 @@
 -- The rows of an axis under a Halt or a Stop slow down.
 -- for: rows_slow_under_halts, rows_follow_lines
-use Rattle.std.specs.Prelude.{◌≡◌, ◌≢◌, refl, ℕ, ◌<◌, ◌-◌, ◌≤◌, ℤ, ◌+ℤ◌, ◌-ℤ◌, ◌≤ℤ◌, pos, Bool, true, false, ◌&&◌, nat_eq, if◌then◌else◌, unsigned_abs, Option, Some, None, List, ◌∷◌, ◌++◌, length, slice_get}
+use Rattle.std.specs.Prelude.{◌≡◌, ◌≢◌, refl, ℕ, ◌<◌, ◌-◌, ◌≤◌, ℤ, ◌+ℤ◌, ◌-ℤ◌, ◌≤ℤ◌, pos, Bool, true, false, ◌&&◌, nat_eq, if◌then◌else◌, unsigned_abs, Option, Some, None, Result, Ok, Err, List, ◌∷◌, ◌++◌, length, slice_get}
 use Rattle.std.proofs.Common.{arith, ap, subst, sym, ◌∙◌}
 use Rattle.std.proofs.lemmas.Int.{ints}
 use Rattle.axis_core.proofs.ArrivalLaws.{active-runs, advances-by, reset-alike, still-driven, stop-alike}
 use Rattle.axis_core.proofs.KeptRows.{Place, place-ended_by}
 use Rattle.axis_core.specs.AxisKept as kept
-use Rattle.axis_core.specs.Arrivals.{course_by, course_of, slowing}
+use Rattle.axis_core.specs.Arrivals.{course_by, course_in, course_of, slowing}
 use Rattle.axis_core.specs.Cores.{Core, core_after_error}
-use Rattle.axis_core.specs.Cycles.{Advance, advance_by_progress, advance_in_cycle, core_after_advance, core_after_answer, core_after_cycle, core_after_going_on, core_after_step, progress_by_step}
+use Rattle.axis_core.specs.Cycles.{Advance, advance_by_progress, advance_in_cycle, axis_after_braking, axis_moved_in, core_after_advance, core_after_answer, core_after_cycle, core_after_going_on, core_after_step, progress_by_step}
 use Rattle.axis_core.specs.Drives.{answer_error_of, axis_at_drive, is_driven}
 use Rattle.axis_core.specs.Fates.{cycle_fate, moved_fate}
-use Rattle.axis_core.specs.Kinds.{wish_by}
+use Rattle.axis_core.specs.Kinds.{wish_by, wish_in}
+use Rattle.axis_core.specs.Motions.{is_slowing, slows_in}
+use Rattle.axis_core.specs.Profiles.{profile_of}
 use Rattle.axis_core.specs.Steps.{old_step_of, step_for_wish, taken_step_in}
 use Rattle.axis_core.specs.blocks.Moves.{target_of}
 use Rattle.axis_core.specs.blocks.Power.{is_powered}
 use Rattle.axis_core.specs.declared.axis.Axis.{Axis}
 use Rattle.axis_core.specs.declared.look.AxisLook.{AxisLook}
+use Rattle.axis_core.specs.declared.profile.Manner.{Manner}
+use Rattle.axis_core.specs.declared.profile.Manner.TheVariants as manner
+use Rattle.axis_core.specs.declared.progress.Progress.{Progress}
+use Rattle.plc_types.proofs.EveryKind.{every-kind-that}
+use Rattle.plc_types.specs.Inputs.{takes}
+use Rattle.plc_types.specs.declared.inputs.Input.TheVariants as input
 use Rattle.plc_types.specs.declared.axis.AxisRow.{AxisRow}
 use Rattle.buffer_modes.specs.Fates.{goes_on, replaced}
 use Rattle.command_pool.specs.declared.ending.Finish.TheVariants as finish
 use Rattle.plc_types.specs.declared.kind.BlockKind.{BlockKind}
-use Rattle.plc_types.specs.declared.kind.BlockKind.TheVariants as kind
 use Rattle.command_pool.specs.declared.wanted.Wanted.{Wanted}
 use Rattle.plc_types.specs.declared.group.GroupRow.{GroupRow}
 use Rattle.kin_core.specs.Admissible.{IsKept}
@@ -81,15 +88,36 @@ stepped_place look c none goes =
 abbrev step_of : Axis → ℤ → ℤ
 step_of a d = taken_step_in a (toward_zero (old_step_of a) d)
 
+slows_by_rate : (m : Manner) (w : Wanted) (d : ℤ) → course_in m w ≡ Some (slowing d) →
+    (slows_in m ≡ true) × (w.rates.d ≡ d)
+slows_by_rate manner.Slows w d h = (refl, let e : w.rates.d ≡ d = cc in e)
+slows_by_rate _ w d h = absurd (cc)
+
+-- where a progress leads a command that moves so
+abbrev place_by : Manner → ℤ → Axis → Result Progress ℕ → ℤ
+place_by m t a (Ok p) = (axis_moved_in m t p a).setpoint
+place_by m t a (Err n) = (axis_after_braking a).setpoint
+
+place_of_kind : (k : BlockKind) (t : ℤ) (a : Axis) (r : Result Progress ℕ) →
+    (advance_by_progress k t a r).axis.setpoint ≡ place_by (profile_of k).manner t a r
+place_of_kind k t a (Ok p) = refl
+place_of_kind k t a (Err n) = refl
+
+slowing_place : (m : Manner) (t : ℤ) (a : Axis) (w : Wanted) (next : Option Wanted)
+    (look : AxisLook) → slows_in m ≡ true →
+    place_by m t a (progress_by_step a w next look (step_for_wish a (wish_in m a w next look)))
+    ≡ a.setpoint +ℤ step_of a w.rates.d
+slowing_place manner.Slows t a w next look h = refl
+slowing_place _ t a w next look h = absurd (cc)
+
 slowing_step : (k : BlockKind) (t : ℤ) (a : Axis) (w : Wanted) (next : Option Wanted)
     (look : AxisLook) (d : ℤ) → course_by k w ≡ Some (slowing d) →
     (advance_by_progress k t a (progress_by_step a w next look
     (step_for_wish a (wish_by k a w next look)))).axis.setpoint ≡ a.setpoint +ℤ step_of a d
-slowing_step kind.Halt t a w next look d h =
-    ap (λ x. a.setpoint +ℤ step_of a x) (let e : w.rates.d ≡ d = cc in e)
-slowing_step kind.Stop t a w next look d h =
-    ap (λ x. a.setpoint +ℤ step_of a x) (let e : w.rates.d ≡ d = cc in e)
-slowing_step _ t a w next look d h = absurd (cc)
+slowing_step k t a w next look d h =
+    let slows = slows_by_rate (profile_of k).manner w d h in
+    place_of_kind k t a _ ∙ slowing_place (profile_of k).manner t a w next look slows.0
+    ∙ ap (λ x. a.setpoint +ℤ step_of a x) slows.1
 
 -- their deceleration is within the limits
 record IsRate (d : ℤ) (l : Limits) : Type 0 where
@@ -98,17 +126,12 @@ record IsRate (d : ℤ) (l : Limits) : Type 0 where
 
 slowing_rate : (k : BlockKind) (l : Limits) (w : Wanted) (d : ℤ) →
     course_by k w ≡ Some (slowing d) → kept.AreNumbers k l w → IsRate d l
-slowing_rate kind.Halt l w d h n =
-    let e : w.rates.d ≡ d = cc in
-    let within = n.deceleration refl in
+slowing_rate k l w d h n =
+    let slows = slows_by_rate (profile_of k).manner w d h in
+    let takes_it = every-kind-that is_slowing (λ x. takes x input.Deceleration) refl k slows.0 in
+    let within = n.deceleration takes_it in
     let above = within.above in
-    subst (λ x. IsRate x l) e (record { least = omega (arith, ints); most = within.below })
-slowing_rate kind.Stop l w d h n =
-    let e : w.rates.d ≡ d = cc in
-    let within = n.deceleration refl in
-    let above = within.above in
-    subst (λ x. IsRate x l) e (record { least = omega (arith, ints); most = within.below })
-slowing_rate _ l w d h n = absurd (cc)
+    subst (λ x. IsRate x l) slows.1 (record { least = omega (arith, ints); most = within.below })
 
 -- the step that is taken slows down
 pub slows_by : (d before now next t : ℤ) → next ≡ now +ℤ t →

@@ -8,6 +8,7 @@ use Rattle.motion_laws.specs.Orders.{is_relative}
 use Rattle.axis_core.specs.declared.profile.Goal.{Goal}
 use Rattle.axis_core.specs.declared.profile.Goal.TheVariants.{FromBefore}
 use Rattle.axis_core.proofs.AxisWalk.{by-test, core_ended}
+use Rattle.axis_core.proofs.RowFacts.{entry-event, is_entry}
 use Rattle.axis_core.specs.Cores.{Core, axis_under, axis_under_by, core_after_end, core_after_ending, core_after_error, core_after_take_over, core_taken_in, next_by, state_after_last}
 use Rattle.axis_core.specs.Cycles.{Advance, advance_by_command, advance_by_progress, advance_in_cycle, advance_without_error, axis_after_braking, core_after_advance, core_after_answer, core_after_cycle, core_after_going_on, core_after_step, progress_by_step, progress_in_cycle}
 use Rattle.axis_core.specs.Drives.{answer_error_of, axis_at_drive, is_driven}
@@ -25,6 +26,8 @@ use Rattle.axis_core.specs.declared.look.AxisLook.{AxisLook}
 use Rattle.axis_core.specs.declared.profile.Closes.{Closes}
 use Rattle.axis_core.specs.declared.profile.Closes.TheVariants.{Never, AtOnce, WhenDone, ForNext}
 use Rattle.axis_state.specs.States.{is_error_stop}
+use Rattle.axis_state.specs.declared.diagram.AxisEvent.{AxisEvent}
+use Rattle.axis_state.specs.declared.diagram.AxisEvent.TheVariants as event
 use Rattle.plc_types.specs.declared.axis_state.AxisState.{AxisState}
 use Rattle.plc_types.specs.declared.axis_state.AxisState.TheVariants as state
 use Rattle.buffer_modes.specs.Fates.{goes_on, replaced}
@@ -34,7 +37,6 @@ use Rattle.plc_types.specs.declared.drive.DriveIn.{DriveIn}
 use Rattle.command_pool.specs.declared.ending.Finish.{Finish}
 use Rattle.command_pool.specs.declared.ending.Finish.TheVariants as finish
 use Rattle.plc_types.specs.declared.kind.BlockKind.{BlockKind}
-use Rattle.plc_types.specs.declared.kind.BlockKind.TheVariants as kind
 use Rattle.command_pool.specs.declared.notes.Note.{Note}
 use Rattle.command_pool.specs.declared.wanted.Wanted.{Wanted}
 use Rattle.plc_types.specs.declared.limits.Limits.{Limits}
@@ -67,10 +69,15 @@ same_number : (x y : ℕ) → Some (finish.Error x) ≡ Some (finish.Error y) �
 same_number x y e = cc
 
 -- the state of the command that takes over, and that in which the axis settles
+begun_by : (o : Option AxisEvent) (s : AxisState) → is_entry o ≡ true → is_error_stop s ≡ false →
+    is_error_stop (next_by o s) ≡ false
+begun_by None s i h = h
+begun_by (Some event.HomeAdmitted) s i h = refl
+begun_by _ s i h = cc
+
 begun : (k : BlockKind) (s : AxisState) → is_error_stop s ≡ false →
     is_error_stop (next_by (event_of k) s) ≡ false
-begun kind.Home s h = refl
-begun _ s h = cc
+begun k s h = begun_by (event_of k) s (entry-event k) h
 
 last : (s : AxisState) → is_error_stop s ≡ false → is_error_stop (state_after_last s) ≡ false
 last state.DiscreteMotion h = refl
@@ -128,7 +135,8 @@ module _ (look : AxisLook) (c : Core) where
       by (Err n) is = record {
         state = h;
         limits = refl;
-        fails = λ place error e. wish_caused w.kind look c w next place error exact active refl
+        fails = λ place error e.
+            wish_caused (profile_of w.kind).manner look c w next place error exact active refl
             (is ∙ ap error_of (same_number n error e));
       }
 

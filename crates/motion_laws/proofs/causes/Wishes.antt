@@ -7,13 +7,14 @@ use Rattle.std.proofs.lemmas.Bool.{cases_Bool}
 use Rattle.std.proofs.lemmas.Bool.Decides.{Decides-int_eq, nat_tests}
 use Rattle.std.proofs.lemmas.Int.{by_lt_z, ints}
 use Rattle.axis_core.specs.Cores.{Core}
-use Rattle.axis_core.specs.Kinds.{wish_by}
+use Rattle.axis_core.specs.Kinds.{wish_in}
+use Rattle.axis_core.specs.Profiles.{profile_of}
 use Rattle.axis_core.specs.Steps.{is_braking, is_safe_step, old_step_of, step_toward, taken_step_in, wish_within_limits}
 use Rattle.axis_core.specs.blocks.Cam.{cam_wish_where, is_in_sync}
 use Rattle.axis_core.specs.declared.axis.Axis.{Axis}
 use Rattle.axis_core.specs.declared.look.AxisLook.{AxisLook}
-use Rattle.plc_types.specs.declared.kind.BlockKind.{BlockKind}
-use Rattle.plc_types.specs.declared.kind.BlockKind.TheVariants as kind
+use Rattle.axis_core.specs.declared.profile.Manner.{Manner}
+use Rattle.axis_core.specs.declared.profile.Manner.TheVariants.{Runs, Gears, Cams}
 use Rattle.command_pool.specs.declared.wanted.Wanted.{Wanted}
 use Rattle.kin_core.specs.Admissible.{IsSafe}
 use Rattle.motion_laws.specs.causes.Axis.{Brakes, CycleBrings, IsUnsafe, cam, limit, step_wanted}
@@ -118,7 +119,7 @@ limited a step error exact e = by (is_braking (old_step_of a) step || is_safe_st
 
 -- an error of a command has its cause
 by_limit : (look : AxisLook) (c : Core) (w : Wanted) (step place : ℤ) (error : ℕ) →
-    c.axis.active ≡ Some w → step_wanted w.kind c.axis w look ≡ Some step →
+    c.axis.active ≡ Some w → step_wanted (profile_of w.kind).manner c.axis w look ≡ Some step →
     IsLimited c.axis step error → CycleBrings look c place error
 by_limit look c w step place error active wanted h = limit h.number (record {
   command = w;
@@ -131,7 +132,7 @@ by_limit look c w step place error active wanted h = limit h.number (record {
 
 by_cam : (synchronized : Bool) (look : AxisLook) (c : Core) (w : Wanted) (place : ℤ)
     (error : ℕ) → TakesSafe c.axis → is_in_sync c.axis look ≡ synchronized →
-    c.axis.active ≡ Some w → w.kind ≡ kind.CamIn →
+    c.axis.active ≡ Some w → (profile_of w.kind).manner ≡ Cams →
     cam_wish_where synchronized c.axis w look.cam ≡ Err error → CycleBrings look c place error
 by_cam true look c w place error exact sync active is e = absurd (cc)
 by_cam false look c w place error exact sync active is e = by c.axis.reached refl e
@@ -142,25 +143,25 @@ by_cam false look c w place error exact sync active is e = by c.axis.reached ref
     by true was f = cam (same_error 104 error f) (record {
       command = w;
       active = active;
-      of_kind = is;
+      of_manner = is;
       synchronized = was;
       far = unsafe c.axis (look.cam -ℤ c.axis.setpoint) exact sync;
     })
     by false was f =
         by_limit look c w (step_toward c.axis look.cam w) place error active
-        (ap (λ k. step_wanted k c.axis w look) is)
+        (ap (λ m. step_wanted m c.axis w look) is)
         (limited c.axis (step_toward c.axis look.cam w) error exact f)
 
-pub wish_caused : (k : BlockKind) (look : AxisLook) (c : Core) (w : Wanted)
+pub wish_caused : (m : Manner) (look : AxisLook) (c : Core) (w : Wanted)
     (next : Option Wanted) (place : ℤ) (error : ℕ) → TakesSafe c.axis →
-    c.axis.active ≡ Some w → w.kind ≡ k → wish_by k c.axis w next look ≡ Err error →
-    CycleBrings look c place error
-wish_caused kind.MoveVelocity look c w next place error exact active is e =
-    by_limit look c w _ place error active (ap (λ k. step_wanted k c.axis w look) is)
+    c.axis.active ≡ Some w → (profile_of w.kind).manner ≡ m →
+    wish_in m c.axis w next look ≡ Err error → CycleBrings look c place error
+wish_caused Runs look c w next place error exact active is e =
+    by_limit look c w _ place error active (ap (λ m. step_wanted m c.axis w look) is)
     (limited c.axis _ error exact e)
-wish_caused kind.GearIn look c w next place error exact active is e =
-    by_limit look c w _ place error active (ap (λ k. step_wanted k c.axis w look) is)
+wish_caused Gears look c w next place error exact active is e =
+    by_limit look c w _ place error active (ap (λ m. step_wanted m c.axis w look) is)
     (limited c.axis _ error exact e)
-wish_caused kind.CamIn look c w next place error exact active is e =
+wish_caused Cams look c w next place error exact active is e =
     by_cam (is_in_sync c.axis look) look c w place error exact refl active is e
 wish_caused _ look c w next place error exact active is e = absurd (cc)

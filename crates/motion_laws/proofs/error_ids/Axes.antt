@@ -7,13 +7,18 @@ use Rattle.std.proofs.lemmas.Bool.{cases_Bool}
 use Rattle.std.proofs.lemmas.Bool.Decides.{Decides-and, Decides-eqb, Decides-like, Decides-not, Decides-or, nat_tests}
 use Rattle.axis_core.specs.Kinds.{tests_of}
 use Rattle.axis_core.specs.Ranges.{IsBetween}
-use Rattle.axis_core.specs.Refusals.{Asked, first_holding, holds, is_target_outside, number_of, refusal_of}
+use Rattle.axis_core.specs.Profiles.{profile_of}
+use Rattle.axis_core.specs.Refusals.{Asked, first_holding, holds, is_outside_in, number_of, refusal_of}
 use Rattle.axis_core.specs.blocks.Cam.{is_no_table}
 use Rattle.axis_core.specs.blocks.Gear.{is_bad_ratio, is_ended_by, is_master, is_not_following}
-use Rattle.axis_core.specs.blocks.Home.{breaks_counts, has_counts}
+use Rattle.axis_core.specs.blocks.Home.{breaks_in, has_counts}
 use Rattle.axis_core.specs.blocks.Moves.{known_target_of}
-use Rattle.axis_core.specs.blocks.Velocity.{least_velocity_of}
+use Rattle.axis_core.specs.blocks.Velocity.{least_velocity_in}
 use Rattle.axis_core.specs.declared.axis.Axis.{Axis}
+use Rattle.axis_core.specs.declared.profile.Goal.{Goal}
+use Rattle.axis_core.specs.declared.profile.Goal.TheVariants.{Origin}
+use Rattle.axis_core.specs.declared.profile.Manner.{Manner}
+use Rattle.axis_core.specs.declared.profile.Manner.TheVariants.{Runs}
 use Rattle.axis_core.specs.declared.reason.Reason.{Reason}
 use Rattle.axis_core.specs.declared.reason.Reason.TheVariants as reason
 use Rattle.plc_types.specs.Counts.{HasCounts, count_of}
@@ -53,9 +58,9 @@ moved state.Standstill = (λ h. absurd (cc), λ h. absurd (h refl))
 moved _ = (λ h e. cc, λ h. refl)
 
 -- its rates
-velocity : (k : BlockKind) (l : Limits) (v : ℤ) →
-    Decides (is_outside (least_velocity_of k l) v l.vmax) (IsVelocity k v l.vmax → ⊥)
-velocity kind.MoveVelocity l v = outside (neg_ℤ l.vmax) v l.vmax
+velocity : (m : Manner) (l : Limits) (v : ℤ) →
+    Decides (is_outside (least_velocity_in m l) v l.vmax) (IsVelocity m v l.vmax → ⊥)
+velocity Runs l v = outside (neg_ℤ l.vmax) v l.vmax
 velocity _ l v = outside (pos 1) v l.vmax
 
 -- its target
@@ -66,34 +71,34 @@ counts l offset inc =
     (Decides-and _ _ (at_most (neg_ℤ (pos (2 ^ 31))) (count_of l.lo offset inc))
     (at_most (count_of l.hi offset inc) (pos (2 ^ 31 - 1))))
 
-abbrev BreaksCounts : BlockKind → Axis → ℤ → Type 0
-BreaksCounts k a target =
-    (k ≡ kind.Home) × (HasCounts a.limits (a.offset +ℤ (target -ℤ a.setpoint)) a.inc → ⊥)
+abbrev BreaksCounts : Goal → Axis → ℤ → Type 0
+BreaksCounts g a target =
+    (g ≡ Origin) × (HasCounts a.limits (a.offset +ℤ (target -ℤ a.setpoint)) a.inc → ⊥)
 
-breaks : (k : BlockKind) (a : Axis) (target : ℤ) →
-    Decides (breaks_counts k a target) (BreaksCounts k a target)
-breaks kind.Home a target =
+breaks : (g : Goal) (a : Axis) (target : ℤ) →
+    Decides (breaks_in g a target) (BreaksCounts g a target)
+breaks Origin a target =
     Decides-like _ (λ h. (refl, h)) (λ h. h.1)
     (Decides-not _ (counts a.limits (a.offset +ℤ (target -ℤ a.setpoint)) a.inc))
 breaks _ a target = (λ h. absurd (cc), λ h. absurd (let no = h.0 in cc))
 
-record IsBadTarget (k : BlockKind) (a : Axis) (o : Option ℤ) : Type 0 where
+record IsBadTarget (g : Goal) (a : Axis) (o : Option ℤ) : Type 0 where
   target : ℤ
   known : o ≡ Some target
-  bad : (IsBetween a.limits.lo target a.limits.hi → ⊥) ⊎ BreaksCounts k a target
+  bad : (IsBetween a.limits.lo target a.limits.hi → ⊥) ⊎ BreaksCounts g a target
 
 same_target : (x y : ℤ) → Some x ≡ Some y → y ≡ x
 same_target x y e = cc
 
-target : (k : BlockKind) (a : Axis) (o : Option ℤ) →
-    Decides (is_target_outside k a o) (IsBadTarget k a o)
-target k a None = (λ h. absurd (cc), λ h. absurd (let no = h.known in cc))
-target k a (Some t) =
+target : (g : Goal) (a : Axis) (o : Option ℤ) →
+    Decides (is_outside_in g a o) (IsBadTarget g a o)
+target g a None = (λ h. absurd (cc), λ h. absurd (let no = h.known in cc))
+target g a (Some t) =
     Decides-like _ (λ h. record { target = t; known = refl; bad = h })
-    (λ h. subst (λ x. (IsBetween a.limits.lo x a.limits.hi → ⊥) ⊎ BreaksCounts k a x)
+    (λ h. subst (λ x. (IsBetween a.limits.lo x a.limits.hi → ⊥) ⊎ BreaksCounts g a x)
     (same_target t h.target h.known) h.bad)
-    (Decides-or (is_outside a.limits.lo t a.limits.hi) (breaks_counts k a t)
-    (outside a.limits.lo t a.limits.hi) (breaks k a t))
+    (Decides-or (is_outside a.limits.lo t a.limits.hi) (breaks_in g a t)
+    (outside a.limits.lo t a.limits.hi) (breaks g a t))
 
 -- what it follows
 ratio : (f : Follow) → Decides (is_bad_ratio f) (HasBadRatio f)
@@ -174,14 +179,15 @@ decides reason.InErrorStop q = error_stop q.axis.state
 decides reason.InStopping q = stopping q.axis.state
 decides reason.InHoming q = homing q.axis.state
 decides reason.GroupHoldsAxis q = (λ h. h, λ h. h)
-decides reason.BadVelocity q = velocity q.wanted.kind q.axis.limits q.wanted.rates.v
+decides reason.BadVelocity q =
+    velocity (profile_of q.wanted.kind).manner q.axis.limits q.wanted.rates.v
 decides reason.BadAcceleration q = outside (pos 1) q.wanted.rates.a q.axis.limits.amax
 decides reason.BadDeceleration q = outside (pos 1) q.wanted.rates.d q.axis.limits.dmax
 decides reason.JerkRefused q = nothing_of q.jerk
 decides reason.TargetOutside q =
     Decides-like _ (λ h. record { target = h.target; known = h.known; bad = h.bad })
     (λ h. record { target = h.target; known = h.known; bad = h.bad })
-    (target q.wanted.kind q.axis (known_target_of q.axis q.last q.wanted))
+    (target (profile_of q.wanted.kind).goal q.axis (known_target_of q.axis q.last q.wanted))
 decides reason.QueueFull q =
     Decides-like _ (λ h. record { waits = h.0.0; behind = h.0.1; full = h.1 })
     (λ h. ((h.waits, h.behind), h.full))

@@ -1,31 +1,25 @@
 -- What an event makes of the commands that an instance has, by its changes.
 -- for: machines_can_stand, replies_show_commands, commands_are_where_their_instances_show and others
-use Rattle.std.specs.Prelude.{◌≡◌, refl, ℕ, ◌<◌, false, nat_eq, if◌then◌else◌, List, length, slice_get}
-use Rattle.std.proofs.Common.{arith, ap, sym, subst, ◌∙◌}
+use Rattle.std.specs.Prelude.{◌≡◌, refl, ℕ, false, nat_eq, if◌then◌else◌, List, slice_get}
+use Rattle.std.proofs.Common.{arith, ap, sym, ◌∙◌}
 use Rattle.std.proofs.lemmas.Bool.{eqb-false}
 use Rattle.std.proofs.lemmas.List.{get_or-set_other}
-use Rattle.axis_core.specs.Cores as cores
 use Rattle.buffer_modes.specs.Owners.{ends_given}
-use Rattle.command_changes.specs.Axis as axis
-use Rattle.command_changes.specs.Group as group
 use Rattle.command_core.specs.Brought.{brought}
 use Rattle.command_core.specs.Calls as calls
 use Rattle.command_core.specs.Changes.{Change, all_changed}
-use Rattle.command_core.specs.CommandState.{CommandState, active_of, owns, waiting_of}
+use Rattle.command_core.specs.CommandState.{active_of, owns, waiting_of}
 use Rattle.fb_outputs.specs.InstanceState.{InstanceState}
-use Rattle.group_core.specs.Cores as groups
 use Rattle.motion_history.specs.Setup.{Setup}
-use Rattle.motion_kernel.specs.Machine.{Machine, axis_core_at, group_core_at, instance_at, no_instance}
-use Rattle.motion_kernel.specs.calls.Calls.{with_axis_core, with_group_core, with_instance}
-use Rattle.motion_kernel.specs.kept.Machine.{IsSized}
-use Rattle.motion_kernel.proofs.Sizes.{sized_instance, sized_without}
+use Rattle.motion_kernel.specs.Machine.{Machine, instance_at, no_instance}
+use Rattle.motion_kernel.specs.calls.Calls.{with_instance}
 use Rattle.motion_kernel.specs.owners.Commands.{active_at, active_shown, commands_at, commands_shown}
 use Rattle.motion_kernel.specs.owners.Objects.{a_group, an_axis, IsThere, Object, has_commands_on}
 use Rattle.motion_laws.proofs.owners.active.Events.{ActiveOf, KeepsActive}
 use Rattle.motion_laws.proofs.owners.active.Waiting.{KeepsWaiting}
-use Rattle.motion_kernel.proofs.owners.commands.Events.{Changes, IsGood, OwnerLaws, ShownOf}
-use Rattle.motion_kernel.proofs.owners.commands.Freed.{IsAsking, instances_without}
-use Rattle.motion_kernel.proofs.walk.Events.{axis_event, freed_at, freed_there, group_event}
+use Rattle.motion_kernel.proofs.owners.commands.Events.{Changes, OwnerLaws, ShownOf}
+use Rattle.motion_kernel.proofs.owners.commands.Freed.{instances_without}
+use Rattle.motion_kernel.proofs.walk.Events.{freed_at, freed_there}
 use Rattle.motion_kernel.proofs.owners.Blocks.{untold}
 use Rattle.motion_kernel.proofs.walk.Keeps.{Event, command_state_at, freed}
 
@@ -87,21 +81,6 @@ module _ (laws : OwnerLaws) where
     beside = λ p l d. ap (waiting_of k) (e.beside p l d);
   }
 
-  -- the same of an axis and of a group
-  pub axis_changes : (s : Setup) (k n : ℕ) (m : Machine) (c : cores.Core) (xs : List Change) → IsSized s m → n < length m.axes →
-      axis.command_state_of c ≡ all_changed xs (axis.command_state_of (axis_core_at m n)) → brought k xs ≡ 0 →
-      Changes k m (with_axis_core m n c) (an_axis n) c.notes
-  axis_changes s k n m c xs sized l makes none =
-      subst (Changes k m (with_axis_core m n c) (an_axis n)) (sym (ap (λ (d : CommandState). d.notes) makes))
-      (event_changes k m (with_axis_core m n c) (an_axis n) xs (axis_event s n m c xs sized l makes) none)
-
-  pub group_changes : (s : Setup) (k j : ℕ) (m : Machine) (c : groups.Core) (xs : List Change) → IsSized s m → j < length m.groups →
-      group.command_state_of c ≡ all_changed xs (group.command_state_of (group_core_at m j)) → brought k xs ≡ 0 →
-      Changes k m (with_group_core m j c) (a_group j) c.notes
-  group_changes s k j m c xs sized l makes none =
-      subst (Changes k m (with_group_core m j c) (a_group j)) (sym (ap (λ (d : CommandState). d.notes) makes))
-      (event_changes k m (with_group_core m j c) (a_group j) xs (group_event s j m c xs sized l makes) none)
-
   -- where an instance asks, it has no command, and the others have theirs
   pub free_none : (k : ℕ) (i : InstanceState) (m : Machine) (o : Object) → IsThere (freed k i m) o → owns k (command_state_at (freed k i m) o) ≡ 0
   free_none k i m o l = ap (owns k) (freed_at laws.walk k i m o (freed_there k i m o l)) ∙ laws.once.taken_away k (command_state_at m o)
@@ -124,10 +103,3 @@ module _ (laws : OwnerLaws) where
       let there = freed_there k i m o l in
       active_left k j i m o d there ∙ active o there
       ∙ ap (λ (x : InstanceState). if has_commands_on (slice_get s.blocks j) o then active_shown x.progress else 0) (sym (free_same k j i m d))
-
-  pub asks : (s : Setup) (k : ℕ) (i : InstanceState) (m : Machine) → IsGood s m → IsAsking s k (freed k i m)
-  asks s k i m h = record {
-    sized = sized_without s k (with_instance m k i) (sized_instance s m k i h.sized);
-    own = λ o l. commands_of (freed k i m) k o ∙ free_none k i m o l;
-    others = λ j d. free_shown s k j i m d (h.shown j);
-  }

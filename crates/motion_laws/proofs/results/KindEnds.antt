@@ -21,6 +21,7 @@ use Rattle.plc_types.specs.declared.axis.AxisRow.{AxisRow}
 use Rattle.buffer_modes.specs.Fates.{Fate, goes_on, replaced}
 use Rattle.buffer_modes.specs.Owners.{owner_by}
 use Rattle.command_core.specs.CommandState.{CommandState, active_of}
+use Rattle.plc_types.proofs.EveryKind.{every-kind, every-kind-that}
 use Rattle.plc_types.specs.Kinds.{acts_on_group}
 use Rattle.command_pool.specs.declared.ending.Finish.{Finish}
 use Rattle.command_pool.specs.declared.ending.Finish.TheVariants as finish
@@ -85,8 +86,7 @@ may_close ForNext x = may_give_way x
 may_close closes x = may_be_done x
 
 closes_as_may : (x : BlockKind) → may_close (profile_of x).closes x ≡ true
-closes_as_may kind.Home = refl
-closes_as_may _ = refl
+closes_as_may x = every-kind (λ k. may_close (profile_of k).closes k) refl x
 
 closes_right : (c : Closes) (x : BlockKind) (next : Option Wanted) (holds : Bool) →
     may_close c x ≡ true → EndsRight x next (end_by c next holds)
@@ -224,9 +224,7 @@ active_done s m c rows grows (a_group j) h l w is e =
 
 -- a reset may be Done
 reset_done : (x : BlockKind) → is_reset x ≡ true → may_be_done x ≡ true
-reset_done kind.Reset h = refl
-reset_done kind.GroupReset h = refl
-reset_done _ h = absurd (cc)
+reset_done x h = every-kind-that is_reset may_be_done refl x h
 
 cycle_done : (s : Setup) (m : Machine) (c : ℕ) (rows : List AxisRow) (grows : List GroupRow)
     (more : List Entry) (k : ℕ) (b : BlockDef) → IsMachineKept s m → IsThere m (object_of b) →
@@ -279,11 +277,11 @@ cycle_aborted s m c rows grows more k b l told kinds at act e =
 at_once : (x : BlockKind) →
     (if is_done_at_once x then Some finish.Done else None) ≡ Some finish.Done →
     may_be_done x ≡ true
-at_once kind.GearOut h = refl
-at_once kind.CamOut h = refl
-at_once kind.GroupEnable h = refl
-at_once kind.GroupDisable h = refl
-at_once _ h = absurd (cc)
+at_once x h = every-kind-that is_done_at_once may_be_done refl x (said (is_done_at_once x) h)
+  where
+    said : (b : Bool) → (if b then Some finish.Done else None) ≡ Some finish.Done → b ≡ true
+    said true h = refl
+    said false h = absurd (cc)
 
 answered_done : (x : BlockKind) (r : Result Bool Refusal) → end_answered x r ≡ Some finish.Done →
     may_be_done x ≡ true

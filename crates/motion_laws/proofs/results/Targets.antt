@@ -1,14 +1,14 @@
 -- A move of an instance is Done at its target.
 -- for: done_moves_are_at_their_targets
-use Rattle.std.specs.Prelude.{◌≡◌, refl, ℕ, ◌<◌, Bool, true, false, nat_eq, if◌then◌else◌, Option, Some, None, Result, Ok, Err, List, ◌∷◌, length, slice_get}
+use Rattle.std.specs.Prelude.{◌≡◌, refl, ℕ, ◌<◌, Bool, true, false, not, nat_eq, if◌then◌else◌, Option, Some, None, Result, Ok, Err, List, ◌∷◌, length, slice_get}
 use Rattle.std.proofs.Common.{arith, ap, sym, subst, ◌∙◌, inl, inr}
 use Rattle.axis_core.specs.blocks.Moves.{is_move}
 use Rattle.buffer_modes.specs.Owners.{owner_by}
+use Rattle.plc_types.proofs.EveryKind.{every-kind-that}
 use Rattle.plc_types.specs.Kinds.{acts_on_group}
 use Rattle.command_pool.specs.declared.ending.Finish.TheVariants as finish
 use Rattle.command_pool.specs.declared.ending.Refusal.{Refusal}
 use Rattle.plc_types.specs.declared.kind.BlockKind.{BlockKind}
-use Rattle.plc_types.specs.declared.kind.BlockKind.TheVariants as kind
 use Rattle.command_pool.specs.declared.wanted.Wanted.{Wanted}
 use Rattle.fb_outputs.specs.Steps.{edge_of}
 use Rattle.plc_types.specs.declared.inputs.Inputs.{Inputs}
@@ -42,17 +42,19 @@ use Rattle.motion_laws.proofs.results.outcomes.DoneBy.{call_not_done}
 use Rattle.motion_kernel.proofs.walk.Keeps.{WalkLaws}
 
 -- a move acts on an axis, resets nothing, and is not Done in its call
-on_axis : (x : BlockKind) → is_move x ≡ true → acts_on_group x ≡ false
-on_axis kind.MoveAbsolute h = refl
-on_axis _ h = cc
+off : (b : Bool) → not b ≡ true → b ≡ false
+off false h = refl
+off true h = absurd (cc)
 
-no_reset : (x : BlockKind) → is_move x ≡ true → is_reset x ≡ true → ⊥
-no_reset kind.MoveAbsolute h r = cc
-no_reset _ h r = cc
+on_axis : (x : BlockKind) → is_move x ≡ true → acts_on_group x ≡ false
+on_axis x h = off (acts_on_group x) (every-kind-that is_move (λ k. not (acts_on_group k)) refl x h)
+
+no_reset : (x : BlockKind) → is_move x ≡ true → is_reset x ≡ false
+no_reset x h = off (is_reset x) (every-kind-that is_move (λ k. not (is_reset k)) refl x h)
 
 not_at_once : (x : BlockKind) → is_move x ≡ true → is_done_at_once x ≡ false
-not_at_once kind.MoveAbsolute h = refl
-not_at_once _ h = cc
+not_at_once x h =
+    off (is_done_at_once x) (every-kind-that is_move (λ k. not (is_done_at_once k)) refl x h)
 
 answered_not : (x : BlockKind) (answer : Result Bool Refusal) → is_move x ≡ true → end_answered x answer ≡ Some finish.Done → ⊥
 answered_not x (Err r) h e = cc
@@ -103,7 +105,9 @@ cycle_there s m e more k b l told moves kinds at move ends same =
             of_kind = of_kind;
             there = moves.done has.command has.is (ap is_move of_kind ∙ move) (sym (same act) ∙ ends);
           }
-      | inr reset ↦ absurd (no_reset b.kind move (kinds.reset k b reset at))
+      | inr reset ↦
+          let no = no_reset b.kind move in
+          let is = kinds.reset k b reset at in absurd (cc)
     ]
 
 entry_there : (s : Setup) (m : Machine) (e : Entry) (more : List Entry) (k : ℕ) (b : BlockDef) → b.object < length m.axes →

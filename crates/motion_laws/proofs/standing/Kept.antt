@@ -28,7 +28,7 @@ use Rattle.motion_laws.proofs.standing.Axes as axes
 use Rattle.motion_laws.proofs.standing.Axes.{AxisLaws}
 use Rattle.motion_laws.proofs.standing.Groups as groups
 use Rattle.motion_laws.proofs.standing.Groups.{LinesLead}
-use Rattle.motion_laws.specs.Standing.{CanStand, IsStanding, KindsMatch}
+use Rattle.motion_laws.specs.Standing.{IsStanding, KindsMatch}
 
 -- the laws on which it rests
 pub record StandingLaws : Type 0 where

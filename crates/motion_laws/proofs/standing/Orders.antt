@@ -1,22 +1,24 @@
 -- What the commands of an axis were asked for stays so in every call and every cycle.
 -- for: machines_can_stand
-use Rattle.std.specs.Prelude.{◌≡◌, refl, ℕ, ◌<◌, Bool, true, false, ◌&&◌, nat_eq, if◌then◌else◌, ℤ, ◌+ℤ◌, Option, Some, None, List, [], ◌∷◌, ◌++◌, length, map, slice_get}
+use Rattle.std.specs.Prelude.{◌≡◌, refl, ℕ, ◌<◌, Bool, true, false, ◌&&◌, nat_eq, nat_lt, if◌then◌else◌, ℤ, ◌+ℤ◌, pos, Option, Some, None, List, [], ◌∷◌, ◌++◌, length, map, slice_get, slice_index_or}
 use Rattle.std.specs.List.{AllByRecursion}
 use Rattle.std.proofs.Common.{ap, sym, subst, ◌∙◌, inl, inr}
 use Rattle.std.proofs.lemmas.Bool.{cases_Bool, lt-ltb}
 use Rattle.axis_core.specs.blocks.Moves.{is_relative_in}
 use Rattle.axis_core.specs.declared.profile.Goal.{Goal}
-use Rattle.axis_core.specs.declared.profile.Goal.TheVariants.{FromBefore}
+use Rattle.axis_core.specs.declared.profile.Goal.TheVariants.{Given, FromBefore, Origin}
+use Rattle.axis_core.specs.declared.profile.Entry.{Entry}
+use Rattle.axis_core.specs.declared.profile.Entry.TheVariants.{Joins, Leaves, Awaits}
 use Rattle.axis_core.specs.Profiles.{profile_of}
 use Rattle.axis_core.proofs.AxisWalk.{by-test}
-use Rattle.axis_core.proofs.MayAdmit.{none-held}
-use Rattle.axis_core.specs.Calls.{axis_without_owner, core_after_admission, core_after_command, core_after_joining, core_after_leaving, core_after_power, core_after_verdict, core_with_queued, queue_in}
+use Rattle.axis_core.proofs.MayAdmit.{NoneHeld, none-held}
+use Rattle.axis_core.specs.Calls.{axis_without_owner, core_after_command, core_after_joining, core_after_leaving, core_after_power, core_after_verdict, core_entered_in, core_with_queued, queue_in}
 use Rattle.axis_core.specs.Cores.{Core, axis_under, axis_under_by, core_after_end, core_after_ending, core_after_error, core_after_take_over, core_taken_in}
 use Rattle.axis_core.specs.Cycles.{advance_in_cycle, core_after_advance, core_after_answer, core_after_cycle, core_after_going_on, core_after_step}
-use Rattle.axis_core.specs.Demands.{IsMade, asked_target}
+use Rattle.axis_core.specs.Demands.{IsMade, target_in}
 use Rattle.axis_core.specs.Drives.{answer_error_of, axis_at_drive, is_driven}
-use Rattle.axis_core.specs.Kinds.{may_wait, tests_of}
-use Rattle.axis_core.specs.Refusals.{Asked, first_holding, holds, refusal_of}
+use Rattle.axis_core.specs.Kinds.{is_tested, may_wait}
+use Rattle.axis_core.specs.Refusals.{Asked, holds, refusal_of}
 use Rattle.axis_core.specs.blocks.Cam.{is_no_table}
 use Rattle.axis_core.specs.blocks.Gear.{is_master, velocity_command}
 use Rattle.axis_core.specs.blocks.Halts.{axis_after_stop, hold_by, leaves_stopping}
@@ -31,6 +33,9 @@ use Rattle.axis_state.specs.States.{is_error_stop}
 use Rattle.buffer_modes.specs.Owners.{active_without}
 use Rattle.buffer_modes.specs.Queue.{Commands, admitted, behind, is_aborting, is_active_at_once}
 use Rattle.buffer_modes.specs.declared.reset.PendingReset.{PendingReset}
+use Rattle.plc_types.proofs.EveryKind.{every-kind, every-kind-that}
+use Rattle.plc_types.specs.Inputs.{takes}
+use Rattle.plc_types.specs.declared.inputs.Input.TheVariants as input
 use Rattle.plc_types.specs.declared.drive.DriveIn.{DriveIn}
 use Rattle.command_changes.proofs.axis.Cycles.{advance_stays}
 use Rattle.command_core.specs.CommandState.{CommandState}
@@ -63,58 +68,39 @@ pub record AsksWell (s : Setup) (n : ℕ) (q : Asked) (c : Core) : Type 0 where
 
 -- a call's inputs say whom its command follows
 pub follow_asked : (k : BlockKind) (i : Inputs) → is_follow_of k (follow_of k i) ≡ true
-follow_asked kind.GearIn i = refl
-follow_asked kind.CamIn i = refl
-follow_asked _ i = refl
+follow_asked k i = every-kind (λ x. is_follow_of x (follow_of x i)) refl k
 
 pub master_asked : (axes : ℕ) (k : BlockKind) (i : Inputs) → i.master < axes →
     has_master axes (follow_of k i) ≡ true
-master_asked axes kind.GearIn i l = lt-ltb i.master axes l
-master_asked axes kind.CamIn i l = lt-ltb i.master axes l
-master_asked axes _ i l = refl
+master_asked axes k i l =
+    let there : nat_lt i.master axes ≡ true = lt-ltb i.master axes l in
+    every-kind (λ x. has_master axes (follow_of x i)) (cc) k
 
--- whether a kind follows
-abbrev follows : BlockKind → Bool
-follows kind.GearIn = true
-follows kind.CamIn = true
-follows k = false
-
-none_followed : (k : BlockKind) (f : Follow) → follows k ≡ false → is_follow_of k f ≡ true →
-    f ≡ follow.None
-none_followed k follow.None a b = refl
-none_followed kind.GearIn f a b = absurd (cc)
-none_followed kind.CamIn f a b = absurd (cc)
-none_followed _ (follow.Gear m n d) a b = absurd (cc)
-none_followed _ (follow.Cam m t) a b = absurd (cc)
-
-not_refused : (q : Asked) (k : BlockKind) → q.wanted.kind ≡ k → refusal_of q ≡ None →
-    first_holding q (tests_of k) ≡ None
+-- a reason against which its kind is tested doesn't hold of a command that is not refused
+not_held : (q : Asked) → refusal_of q ≡ None → NoneHeld q q.wanted.kind
 unfolding refusal_of
-not_refused q k is none = ap (λ x. first_holding q (tests_of x)) (sym is) ∙ none
+not_held q none = none-held q q.wanted.kind none
 
--- a command that is not refused follows another axis, by a table that is there
-other_by : (q : Asked) (k : BlockKind) → q.wanted.kind ≡ k → refusal_of q ≡ None →
-    is_follow_of k q.wanted.follow ≡ true → is_master q.number q.wanted.follow ≡ false
+-- so it follows another axis, by a table that is there
+other_by : (q : Asked) (f : Follow) → q.wanted.follow ≡ f → refusal_of q ≡ None →
+    is_follow_of q.wanted.kind f ≡ true → is_master q.number f ≡ false
 unfolding holds
-other_by q kind.GearIn is none f =
-    none-held q kind.GearIn (not_refused q kind.GearIn is none) SelfMaster refl
-other_by q kind.CamIn is none f =
-    none-held q kind.CamIn (not_refused q kind.CamIn is none) SelfMaster refl
-other_by q k is none f = ap (is_master q.number) (none_followed k q.wanted.follow refl f)
+other_by q follow.None is none h = refl
+other_by q (follow.Gear m n d) is none h =
+    sym (ap (is_master q.number) is) ∙ not_held q none SelfMaster
+    (every-kind-that (λ k. takes k input.Numerator) (λ k. is_tested k SelfMaster) refl
+    q.wanted.kind h)
+other_by q (follow.Cam m t) is none h =
+    sym (ap (is_master q.number) is) ∙ not_held q none SelfMaster
+    (every-kind-that (λ k. takes k input.Table) (λ k. is_tested k SelfMaster) refl q.wanted.kind h)
 
-table_of_gear : (tables : ℕ) (f : Follow) → is_follow_of kind.GearIn f ≡ true →
-    is_no_table tables f ≡ false
-table_of_gear tables (follow.Gear m n d) h = refl
-table_of_gear tables (follow.Cam m t) h = absurd (cc)
-table_of_gear tables follow.None h = refl
-
-table_by : (q : Asked) (k : BlockKind) → q.wanted.kind ≡ k → refusal_of q ≡ None →
-    is_follow_of k q.wanted.follow ≡ true → is_no_table q.tables q.wanted.follow ≡ false
+table_by : (q : Asked) (f : Follow) → q.wanted.follow ≡ f → refusal_of q ≡ None →
+    is_follow_of q.wanted.kind f ≡ true → is_no_table q.tables f ≡ false
 unfolding holds
-table_by q kind.GearIn is none f = table_of_gear q.tables q.wanted.follow f
-table_by q kind.CamIn is none f =
-    none-held q kind.CamIn (not_refused q kind.CamIn is none) NoTable refl
-table_by q k is none f = ap (is_no_table q.tables) (none_followed k q.wanted.follow refl f)
+table_by q (follow.Cam m t) is none h =
+    sym (ap (is_no_table q.tables) is) ∙ not_held q none NoTable
+    (every-kind-that (λ k. takes k input.Table) (λ k. is_tested k NoTable) refl q.wanted.kind h)
+table_by q _ is none h = refl
 
 -- the target is known in the call, unless the command is relative
 known_in : (g : Goal) (a : Axis) (last : Option Wanted) (w : Wanted) → is_relative_in g ≡ false →
@@ -127,11 +113,11 @@ known : (a : Axis) (last : Option Wanted) (w : Wanted) → is_relative w.kind �
 unfolding known_target_of
 known a last w h = known_in (profile_of w.kind).goal a last w h
 
-same_asked : (k : BlockKind) (t : Option ℤ) (w : Wanted) →
-    asked_target k (with_target t w) ≡ asked_target k w
-same_asked kind.MoveAbsolute t w = refl
-same_asked kind.Home t w = refl
-same_asked _ t w = refl
+-- what a call gives a command for a target goes by its positions alone
+same_asked : (g : Goal) (v w : Wanted) → v.targets ≡ w.targets → target_in g v ≡ target_in g w
+same_asked Given v w e = ap (λ (t : List ℤ). Some (slice_index_or t 0 (pos 0))) e
+same_asked Origin v w e = ap (λ (t : List ℤ). Some (slice_index_or t 0 (pos 0))) e
+same_asked _ v w e = refl
 
 -- a kind without a buffer mode aborts
 aborts : (w : Wanted) → w.mode ≡ mode.Aborting → is_aborting w.mode ≡ true
@@ -146,11 +132,12 @@ asked_order s n q c well none =
     record {
       follow = well.follow;
       other = subst (λ x. is_master x w.follow ≡ false) well.number
-          (other_by q w.kind refl none well.follow);
+          (other_by q w.follow refl none well.follow);
       table = subst (λ x. is_no_table x w.follow ≡ false) well.tables
-          (table_by q w.kind refl none well.follow);
+          (table_by q w.follow refl none well.follow);
       there = well.there;
-      target = λ h. known c.axis (last_of c.waiting) w h ∙ made.target ∙ sym (same_asked w.kind _ w);
+      target = λ h. known c.axis (last_of c.waiting) w h ∙ made.target
+          ∙ same_asked (profile_of w.kind).goal w _ refl;
       mode = λ h. aborts w (made.mode h);
     }
 
@@ -174,15 +161,9 @@ module _ (s : Setup) (n : ℕ) where
     other = h.other;
     table = h.table;
     there = h.there;
-    target = by w.kind h.target;
+    target = λ r. h.target r ∙ same_asked (profile_of w.kind).goal w (detached k w) refl;
     mode = h.mode;
   }
-    where
-      by : (x : BlockKind) → (is_relative x ≡ false → w.target ≡ asked_target x w) →
-          is_relative x ≡ false → w.target ≡ asked_target x (detached k w)
-      by kind.MoveAbsolute g r = g r
-      by kind.Home g r = g r
-      by _ g r = g r
 
   active_left : (k : ℕ) (o : Option Wanted) → ((w : Wanted) → o ≡ Some w → IsOrder s n w) →
       (w : Wanted) → active_without k o ≡ Some w → IsOrder s n w
@@ -307,18 +288,17 @@ module _ (s : Setup) (n : ℕ) where
     hold = nobody;
   }
 
-  admits : (k : BlockKind) (w : Wanted) (c : Core) → AreIn c → IsOrder s n w → IsOfItsBlock s w →
-      AreIn (core_after_admission k w c)
-  admits kind.Reset w c h order own =
+  admits : (e : Entry) (w : Wanted) (c : Core) → AreIn c → IsOrder s n w → IsOfItsBlock s w →
+      AreIn (core_entered_in e w c)
+  admits Awaits w c h order own =
       record { active = h.active; waiting = h.waiting; hold = h.hold }
-  admits kind.GearOut w c h order own = leaves w c
-  admits kind.CamOut w c h order own = leaves w c
-  admits _ w c h order own = joins w c h order own
+  admits Leaves w c h order own = leaves w c
+  admits Joins w c h order own = joins w c h order own
 
   verdict : (o : Option Reason) (q : Asked) (c : Core) → AsksWell s n q c → refusal_of q ≡ o →
       AreIn c → AreIn (core_after_verdict o q.wanted c)
   verdict None q c well none h =
-      admits q.wanted.kind _ c h (asked_order s n q c well none) well.own
+      admits (profile_of q.wanted.kind).entry _ c h (asked_order s n q c well none) well.own
   verdict (Some reason) q c well is h = h
 
   pub command_orders : (q : Asked) (c : Core) → AsksWell s n q c → AreIn c →
@@ -354,18 +334,19 @@ module _ (s : Setup) (n : ℕ) where
       begun w ws c.axis h.order g (waits_not w.kind w.owner h.waits)
   takes_in _ t w ws c is h g = begun w ws c.axis h.order g (waits_not w.kind w.owner h.waits)
 
-  takes : (ws : List Wanted) (c : Core) → c.axis.active ≡ None → IsHeldByStop s c.axis.hold →
+  takes_over : (ws : List Wanted) (c : Core) → c.axis.active ≡ None → IsHeldByStop s c.axis.hold →
       AllByRecursion (IsQueued s n) ws → c.waiting ≡ ws → AreIn (core_after_take_over ws c)
-  takes [] c none hold h is = record {
+  takes_over [] c none hold h is = record {
     active = λ w e. absurd (let bad : None ≡ Some w = sym none ∙ e in cc);
     waiting = subst (AllByRecursion (IsQueued s n)) (sym is) tt;
     hold = hold;
   }
-  takes (w ∷ ws) c none hold h is = takes_in (profile_of w.kind).goal w.target w ws c refl h.0 h.1
+  takes_over (w ∷ ws) c none hold h is =
+      takes_in (profile_of w.kind).goal w.target w ws c refl h.0 h.1
 
   ends : (f : Finish) (c : Core) → AreIn c → AreIn (core_after_end f c)
   unfolding core_after_end
-  ends f c h = takes c.waiting _ refl h.hold h.waiting refl
+  ends f c h = takes_over c.waiting _ refl h.hold h.waiting refl
 
   ends_by : (o : Option Finish) (c : Core) → AreIn c → AreIn (core_after_ending o c)
   ends_by None c h = h

@@ -7,8 +7,10 @@ use Rattle.axis_core.proofs.AxisWalk.{by-test}
 use Rattle.axis_core.proofs.KeptRows.{Place, place-ended_by, place_of, reset-place}
 use Rattle.axis_core.specs.AxisKept.{IsAxisKept, IsSet}
 use Rattle.axis_core.specs.Cores.{Core, core_after_error}
-use Rattle.axis_core.specs.Cycles.{Advance, advance_by_command, advance_by_progress, advance_in_cycle, advance_without_error, axis_after_progress, axis_at_opening, core_after_advance, core_after_answer, core_after_cycle, core_after_going_on, core_after_step, progress_in_cycle}
+use Rattle.axis_core.specs.Cycles.{Place as Stand, with_place, Advance, advance_by_command, advance_by_progress, advance_in_cycle, advance_without_error, axis_after_progress, axis_at_opening, core_after_advance, core_after_answer, core_after_cycle, core_after_going_on, core_after_step, progress_in_cycle}
 use Rattle.axis_core.specs.Drives.{answer_error_of, axis_at_drive, is_driven}
+use Rattle.axis_core.specs.Kinds.{is_homing_manner}
+use Rattle.axis_core.specs.Profiles.{profile_of}
 use Rattle.axis_core.specs.Ranges.{IsBetween}
 use Rattle.axis_core.specs.blocks.Halts.{axis_after_stop, leaves_stopping}
 use Rattle.axis_core.specs.blocks.Moves.{target_of}
@@ -26,7 +28,6 @@ use Rattle.plc_types.specs.declared.drive.DriveIn.{DriveIn}
 use Rattle.plc_types.specs.declared.drive.DriveState.{DriveState}
 use Rattle.plc_types.specs.declared.drive.DriveState.TheVariants.{SwitchOnDisabled, ReadyToSwitchOn, SwitchedOn, OperationEnabled, Fault}
 use Rattle.plc_types.specs.declared.kind.BlockKind.{BlockKind}
-use Rattle.plc_types.specs.declared.kind.BlockKind.TheVariants as kind
 use Rattle.command_pool.specs.declared.wanted.Wanted.{Wanted}
 use Rattle.plc_types.specs.declared.limits.Limits.{Limits}
 use Rattle.motion_kernel.proofs.Sizes.{by_if}
@@ -55,8 +56,9 @@ abbrev Steps : Axis → Axis → Type 0
 Steps a b = (b.previous ≡ a.setpoint) ⊎ (b.previous ≡ b.setpoint)
 
 progresses : (x : BlockKind) (t : ℤ) (p : Progress) (a : Axis) → Steps a (axis_after_progress x t p a)
-progresses kind.Home t p a = inr refl
-progresses _ t p a = inl refl
+progresses x t p a =
+    by_if (λ (b : Stand). Steps a (with_place b a)) (is_homing_manner (profile_of x).manner) _ _
+    (inr refl) (inl refl)
 
 by_result : (x : BlockKind) (t : ℤ) (r : Result Progress ℕ) (a : Axis) →
     Steps a (advance_by_progress x t a r).axis

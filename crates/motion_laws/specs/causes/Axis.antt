@@ -4,6 +4,7 @@ use Rattle.std.specs.Prelude.{◌≡◌, ◌⊎◌, ℕ, ℤ, ◌+ℤ◌, ◌-�
 use Rattle.axis_core.specs.Cores.{Core}
 use Rattle.axis_core.specs.Drives.{actual_of}
 use Rattle.axis_core.specs.Fates.{cycle_fate}
+use Rattle.axis_core.specs.Profiles.{profile_of}
 use Rattle.axis_core.specs.Ranges.{IsBetween}
 use Rattle.axis_core.specs.Steps.{old_step_of, step_toward}
 use Rattle.axis_core.specs.blocks.Gear.{gear_step_of}
@@ -12,12 +13,12 @@ use Rattle.axis_core.specs.blocks.Power.{is_powered}
 use Rattle.axis_core.specs.blocks.Velocity.{step_to_velocity}
 use Rattle.axis_core.specs.declared.axis.Axis.{Axis}
 use Rattle.axis_core.specs.declared.look.AxisLook.{AxisLook}
+use Rattle.axis_core.specs.declared.profile.Manner.{Manner}
+use Rattle.axis_core.specs.declared.profile.Manner.TheVariants.{Runs, Gears, Cams}
 use Rattle.cia402_machine.specs.Statusword.{state_of_word}
 use Rattle.plc_types.specs.declared.drive.DriveIn.{DriveIn}
 use Rattle.plc_types.specs.declared.drive.DriveState.TheVariants as drive
 use Rattle.command_pool.specs.declared.ending.Finish.TheVariants as finish
-use Rattle.plc_types.specs.declared.kind.BlockKind.{BlockKind}
-use Rattle.plc_types.specs.declared.kind.BlockKind.TheVariants as kind
 use Rattle.command_pool.specs.declared.wanted.Wanted.{Wanted}
 use Rattle.follow_plan.specs.Gear.{gear_toward_of}
 use Rattle.kin_core.specs.Admissible.{IsSafe}
@@ -66,22 +67,22 @@ IsUnsafe a step = IsSafe a.limits a.previous a.setpoint (a.setpoint +ℤ step) �
 abbrev pub Brakes : ℤ → ℤ → Type 0
 Brakes old step = ((pos 0 ≤ℤ step) × (step <ℤ old)) ⊎ ((old <ℤ step) × (step ≤ℤ pos 0))
 
--- the step that a command without a target wants: toward its Velocity, the step of its gear, or the
--- position of its cam. MC_MoveVelocity, MC_GearIn, MC_CamIn
-abbrev pub step_wanted : BlockKind → Axis → Wanted → AxisLook → Option ℤ
-step_wanted kind.MoveVelocity a w look = Some (step_to_velocity a w.rates.v w)
-step_wanted kind.GearIn a w look =
+-- the step that a command without a target wants, by how it moves: toward its Velocity, the step of
+-- its gear, or the position of its cam. MC_MoveVelocity, MC_GearIn, MC_CamIn
+abbrev pub step_wanted : Manner → Axis → Wanted → AxisLook → Option ℤ
+step_wanted Runs a w look = Some (step_to_velocity a w.rates.v w)
+step_wanted Gears a w look =
     Some (step_to_velocity a
     (gear_toward_of (gear_step_of w.follow look.master) a.limits.vmax) w)
-step_wanted kind.CamIn a w look = Some (step_toward a look.cam w)
-step_wanted k a w look = None
+step_wanted Cams a w look = Some (step_toward a look.cam w)
+step_wanted m a w look = None
 
 -- the active command has no target, and the step that it wants is unsafe and doesn't brake
 pub record RunsPastLimit (a : Axis) (look : AxisLook) : Type 0 where
   pub command : Wanted
   pub active : a.active ≡ Some command
   pub step : ℤ
-  pub wanted : step_wanted command.kind a command look ≡ Some step
+  pub wanted : step_wanted (profile_of command.kind).manner a command look ≡ Some step
   pub unsafe : IsUnsafe a step
   pub fast : Brakes (old_step_of a) step → ⊥
 
@@ -90,7 +91,7 @@ pub record RunsPastLimit (a : Axis) (look : AxisLook) : Type 0 where
 pub record LosesCam (a : Axis) (look : AxisLook) : Type 0 where
   pub command : Wanted
   pub active : a.active ≡ Some command
-  pub of_kind : command.kind ≡ kind.CamIn
+  pub of_manner : (profile_of command.kind).manner ≡ Cams
   pub synchronized : a.reached ≡ true
   pub far : IsUnsafe a (look.cam -ℤ a.setpoint)
 

@@ -1,9 +1,13 @@
 -- By which ErrorID a command of an axis is refused (PLCopen Motion Control Part 1, ErrorID; the
 -- numbers are this project's profile).
 use Rattle.std.specs.Prelude.{◌≡◌, ◌≢◌, ◌⊎◌, ℕ, ◌≤◌, ◌==◌, ℤ, ◌+ℤ◌, ◌-ℤ◌, pos, neg_ℤ, true, Some, None, List, [], ◌∷◌}
+use Rattle.axis_core.specs.Profiles.{profile_of}
 use Rattle.axis_core.specs.Ranges.{IsBetween}
 use Rattle.axis_core.specs.Refusals.{Asked}
 use Rattle.axis_core.specs.blocks.Moves.{known_target_of}
+use Rattle.axis_core.specs.declared.profile.Goal.TheVariants.{Origin}
+use Rattle.axis_core.specs.declared.profile.Manner.{Manner}
+use Rattle.axis_core.specs.declared.profile.Manner.TheVariants.{Runs}
 use Rattle.plc_types.specs.Counts.{HasCounts}
 use Rattle.plc_types.specs.declared.axis_state.AxisState.TheVariants as state
 use Rattle.plc_types.specs.declared.kind.BlockKind.{BlockKind}
@@ -29,21 +33,21 @@ tested kind.CamIn = 1 ∷ 2 ∷ 3 ∷ 4 ∷ 5 ∷ 6 ∷ 7 ∷ 8 ∷ 9 ∷ 11 ∷
 tested kind.CamOut = 1 ∷ 2 ∷ 3 ∷ 4 ∷ 5 ∷ 19 ∷ []
 tested k = []
 
--- a velocity lies in the range of its kind: a MoveVelocity goes both ways, others have one of at
--- least 1
-abbrev pub IsVelocity : BlockKind → ℤ → ℤ → Type 0
-IsVelocity kind.MoveVelocity v vmax = IsBetween (neg_ℤ vmax) v vmax
-IsVelocity k v vmax = IsBetween (pos 1) v vmax
+-- a velocity lies in its range, by how its command moves: one that runs at it may go both ways, and
+-- others have one of at least 1. MC_MoveVelocity
+abbrev pub IsVelocity : Manner → ℤ → ℤ → Type 0
+IsVelocity Runs v vmax = IsBetween (neg_ℤ vmax) v vmax
+IsVelocity m v vmax = IsBetween (pos 1) v vmax
 
--- the target of a command, as far as it is known in its call, lies outside the limits, or is one of
--- a Home by which the places within them have no counts of 32 bits any more. MC_MoveAbsolute,
+-- the target of a command, as far as it is known in its call, lies outside the limits, or is one to
+-- home to by which the places within them have no counts of 32 bits any more. MC_MoveAbsolute,
 -- MC_MoveRelative, MC_Home
 pub record HasBadTarget (q : Asked) : Type 0 where
   pub target : ℤ
   pub known : known_target_of q.axis q.last q.wanted ≡ Some target
   pub bad :
       (IsBetween q.axis.limits.lo target q.axis.limits.hi → ⊥)
-      ⊎ ((q.wanted.kind ≡ kind.Home)
+      ⊎ (((profile_of q.wanted.kind).goal ≡ Origin)
       × (HasCounts q.axis.limits (q.axis.offset +ℤ (target -ℤ q.axis.setpoint)) q.axis.inc → ⊥))
 
 -- a command that does not abort finds one active, and eight that wait. BufferMode
@@ -84,7 +88,8 @@ Condition q id =
     (Row (id == 3) (q.axis.state ≡ state.Stopping)
     (Row (id == 4) (q.axis.state ≡ state.Homing)
     (Row (id == 5) (q.held ≡ true)
-    (Row (id == 6) (IsVelocity q.wanted.kind q.wanted.rates.v q.axis.limits.vmax → ⊥)
+    (Row (id == 6)
+    (IsVelocity (profile_of q.wanted.kind).manner q.wanted.rates.v q.axis.limits.vmax → ⊥)
     (Row (id == 7) (IsBetween (pos 1) q.wanted.rates.a q.axis.limits.amax → ⊥)
     (Row (id == 8) (IsBetween (pos 1) q.wanted.rates.d q.axis.limits.dmax → ⊥)
     (Row (id == 9) (q.jerk ≢ pos 0)

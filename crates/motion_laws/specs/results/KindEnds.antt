@@ -1,5 +1,8 @@
 -- How commands end by their kinds (PLCopen Motion Control Part 1, Done and CommandAborted).
-use Rattle.std.specs.Prelude.{◌≡◌, ◌≢◌, ℕ, Bool, true, false, Some, List, [], ◌∷◌, ◌++◌, slice_get}
+use Rattle.std.specs.Prelude.{◌≡◌, ◌≢◌, ℕ, Bool, true, false, not, Some, List, [], ◌∷◌, ◌++◌, slice_get}
+use Rattle.axis_core.specs.Profiles.{profile_of}
+use Rattle.axis_core.specs.declared.profile.Closes.{Closes}
+use Rattle.axis_core.specs.declared.profile.Closes.TheVariants.{ForNext}
 use Rattle.command_core.specs.CommandState.{CommandState}
 use Rattle.command_pool.specs.declared.ending.Finish.TheVariants as finish
 use Rattle.plc_types.specs.declared.kind.BlockKind.{BlockKind}
@@ -14,22 +17,22 @@ use Rattle.motion_kernel.specs.owners.Objects.{object_of}
 use Rattle.motion_kernel.specs.owners.Blocks.{command_state_at}
 use Rattle.motion_laws.specs.results.Outcomes.{finish_in}
 
--- whether a command may be Done: not a Power, nor one that goes on until another one takes over;
--- and a MoveCircularAbsolute is always refused. The last is this project's profile
+-- whether a command that closes so goes on until one that waits takes over. MC_MoveVelocity,
+-- MC_GearIn, MC_CamIn, BufferMode
+abbrev pub closes_for_next : Closes → Bool
+closes_for_next ForNext = true
+closes_for_next closes = false
+
+-- whether a command gives way to one that waits
+abbrev pub may_give_way : BlockKind → Bool
+may_give_way k = closes_for_next (profile_of k).closes
+
+-- whether it may be Done: not a Power, nor one that gives way; and a MoveCircularAbsolute is always
+-- refused. The last is this project's profile
 abbrev pub may_be_done : BlockKind → Bool
 may_be_done kind.Power = false
-may_be_done kind.MoveVelocity = false
-may_be_done kind.GearIn = false
-may_be_done kind.CamIn = false
 may_be_done kind.MoveCircularAbsolute = false
-may_be_done kind = true
-
--- whether it gives way to one that waits. BufferMode
-abbrev pub may_give_way : BlockKind → Bool
-may_give_way kind.MoveVelocity = true
-may_give_way kind.GearIn = true
-may_give_way kind.CamIn = true
-may_give_way kind = false
+may_be_done k = not (may_give_way k)
 
 -- a command gives way: it is of such a kind, and another one waits
 pub record GivesWay (kind : BlockKind) (c : CommandState) : Type 0 where

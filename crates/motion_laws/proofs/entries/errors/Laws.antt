@@ -1,6 +1,6 @@
 -- The laws on which it rests that rows show errors in the states of errors.
 -- for: machines_can_stand, rows_show_errors, errors_have_causes
-use Rattle.std.specs.Prelude.{◌≡◌, ℕ, ◌<◌, Bool, ℤ, Some, length, slice_get}
+use Rattle.std.specs.Prelude.{◌≡◌, ℕ, Bool, ℤ, Some, slice_get}
 use Rattle.axis_core.specs.Calls.{axis_without_owner, core_after_command, core_after_power}
 use Rattle.axis_core.specs.Cores as axis
 use Rattle.axis_core.specs.Cycles.{axis_at_opening, core_after_cycle}
@@ -24,7 +24,7 @@ use Rattle.group_core.specs.declared.look.GroupLook.{GroupLook}
 use Rattle.motion_history.specs.Calls.{IsCall}
 use Rattle.motion_history.specs.Setup.{Setup}
 use Rattle.motion_history.specs.declared.config.BlockDef.{BlockDef}
-use Rattle.motion_kernel.specs.Machine.{Machine, axis_at, group_at}
+use Rattle.motion_kernel.specs.Machine.{Machine}
 use Rattle.motion_kernel.specs.calls.Calls.{with_execute}
 use Rattle.motion_kernel.specs.kept.Machine.{AreWhole, IsMachineKept}
 use Rattle.motion_kernel.specs.kept.Ready.{MayCall}

@@ -32,8 +32,6 @@ use Rattle.command_core.specs.CommandState.{CommandState}
 use Rattle.command_pool.specs.Waiting.{told_to}
 use Rattle.command_pool.specs.declared.ending.Finish.{Finish}
 use Rattle.command_pool.specs.declared.ending.Finish.TheVariants as finish
-use Rattle.plc_types.specs.declared.kind.BlockKind.{BlockKind}
-use Rattle.plc_types.specs.declared.kind.BlockKind.TheVariants as kind
 use Rattle.command_pool.specs.declared.wanted.Wanted.{Wanted}
 use Rattle.motion_kernel.proofs.Sizes.{by_if}
 use Rattle.motion_numbers.specs.Ranges.{is_outside}

@@ -4,7 +4,6 @@ use Rattle.std.specs.Prelude.{◌≡◌, ◌⊎◌, refl, ℕ, ◌<◌, true, So
 use Rattle.std.proofs.Common.{arith, ap, sym, subst, ◌∙◌, inl, inr}
 use Rattle.axis_core.specs.Calls.{axis_without_owner}
 use Rattle.axis_core.specs.declared.axis.Axis.{Axis}
-use Rattle.axis_state.specs.States.{is_error_stop}
 use Rattle.buffer_modes.specs.Queue.{end_notes}
 use Rattle.command_changes.specs.Failing.{failing}
 use Rattle.command_changes.specs.Group.{power_off_changes}

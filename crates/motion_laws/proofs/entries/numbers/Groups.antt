@@ -176,17 +176,6 @@ reset_leaves true _ = refl
 reset_leaves false state.GroupErrorStop = refl
 reset_leaves false _ = refl
 
-pub reset_keeps : (members : GroupLook) (on_path : Bool) (g : Group) →
-    KeepsError g (reset_where members on_path g)
-unfolding reset_where
-reset_keeps members on_path g = by g.reset
-  where
-    by : (o : Option PendingReset) → KeepsError g (reset_by o (states_in members) on_path g)
-    by None = inl refl
-    by (Some r) =
-        by_if (KeepsError g) (may_reset on_path g) (after_reset (states_in members) g) g
-        (inr (reset_leaves (list_any is_moved (states_in members)) g.state)) (inl refl)
-
 -- and gives no error
 reset_plain : (P : ℕ → ℕ → Type 0) (o : Option PendingReset) (on : Bool) (g : Group) (c : CommandState) →
     AllTell P c.notes → AllTell P (all_changed (reset_changes_by o on g) c).notes

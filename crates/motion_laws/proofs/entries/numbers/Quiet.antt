@@ -4,9 +4,12 @@ use Rattle.std.specs.Prelude.{◌≡◌, ◌⊎◌, refl, ℕ, Bool, true, false
 use Rattle.std.proofs.Common.{inl, inr}
 use Rattle.axis_core.specs.Calls as axis_calls
 use Rattle.axis_core.specs.Cores as axes
+use Rattle.axis_core.specs.Profiles.{profile_of}
 use Rattle.axis_core.specs.Refusals as axis_refusals
 use Rattle.axis_core.specs.Refusals.{Asked}
 use Rattle.axis_core.specs.blocks.Moves.{known_target_of, with_target}
+use Rattle.axis_core.specs.declared.profile.Entry.{Entry}
+use Rattle.axis_core.specs.declared.profile.Entry.TheVariants.{Joins, Leaves, Awaits}
 use Rattle.axis_core.specs.declared.reason.Reason as axis_reason
 use Rattle.axis_state.specs.States.{is_error_stop}
 use Rattle.buffer_modes.specs.Queue.{is_aborting, is_active_at_once, noted}
@@ -74,19 +77,19 @@ none_told P (ends f t ∷ xs) c q h = absurd q
 none_told P (resets ∷ xs) c q h = absurd q
 
 -- of an axis
-axis_admitted : (x : BlockKind) (w : Wanted) (c : axes.Core) →
-    TellNone (axis.admitted_changes x w c)
-axis_admitted kind.Reset w c = tt
-axis_admitted kind.GearOut w c = tt
-axis_admitted kind.CamOut w c = tt
-axis_admitted _ w c =
+axis_admitted : (e : Entry) (w : Wanted) (c : axes.Core) →
+    TellNone (axis.entered_changes e w c)
+axis_admitted Awaits w c = tt
+axis_admitted Leaves w c = tt
+axis_admitted Joins w c =
     by_if TellNone (is_active_at_once (axis_calls.queue_in c) w)
     (joins w ∷ holds (axis.is_stop w.kind) ∷ []) (joins w ∷ []) tt tt
 
 axis_asked : (r : Option axis_reason.Reason) (w : Wanted) (c : axes.Core) →
     TellNone (axis.asked_changes r w c)
 axis_asked None w c =
-    axis_admitted w.kind (with_target (known_target_of c.axis (last_of c.waiting) w) w) c
+    axis_admitted (profile_of w.kind).entry
+    (with_target (known_target_of c.axis (last_of c.waiting) w) w) c
 axis_asked (Some r) w c = tt
 
 axis_command : (q : Asked) (c : axes.Core) → TellNone (axis.command_changes q c)

@@ -5,7 +5,7 @@ use Rattle.std.proofs.Common.{ap}
 use Rattle.axis_core.specs.declared.profile.Goal.{Goal}
 use Rattle.axis_core.specs.declared.profile.Goal.TheVariants.{FromBefore}
 use Rattle.axis_core.proofs.AxisWalk.{by-test}
-use Rattle.axis_core.specs.Calls.{core_after_admission, core_after_command, core_after_joining, core_after_leaving, core_after_power, core_after_verdict, queue_in}
+use Rattle.axis_core.specs.Calls.{core_after_command, core_after_joining, core_after_leaving, core_after_power, core_after_verdict, core_entered_in, queue_in}
 use Rattle.axis_core.specs.Cores.{Core, core_after_end, core_after_ending, core_after_error, core_after_take_over, core_taken_in}
 use Rattle.axis_core.specs.Cycles.{Advance, advance_by_command, advance_by_progress, advance_in_cycle, advance_without_error, core_after_answer, core_after_cycle, core_after_step, progress_by_step}
 use Rattle.axis_core.specs.Drives.{answer_error_of, is_driven}
@@ -24,6 +24,8 @@ use Rattle.axis_core.specs.blocks.Velocity.{step_to_velocity}
 use Rattle.axis_core.specs.declared.axis.Axis.{Axis}
 use Rattle.axis_core.specs.declared.profile.Closes.{Closes}
 use Rattle.axis_core.specs.declared.profile.Closes.TheVariants.{Never, AtOnce, WhenDone, ForNext}
+use Rattle.axis_core.specs.declared.profile.Entry.{Entry}
+use Rattle.axis_core.specs.declared.profile.Entry.TheVariants.{Joins, Leaves, Awaits}
 use Rattle.axis_core.specs.declared.profile.Manner.{Manner}
 use Rattle.axis_core.specs.declared.profile.Manner.TheVariants.{Runs, Gears, Cams}
 use Rattle.buffer_modes.specs.Resets.{replaced_note}
@@ -36,8 +38,6 @@ use Rattle.plc_types.specs.declared.drive.DriveIn.{DriveIn}
 use Rattle.command_pool.specs.Waiting.{last_of, notes_of, told_to}
 use Rattle.command_pool.specs.declared.ending.Finish.{Finish}
 use Rattle.command_pool.specs.declared.ending.Finish.TheVariants as finish
-use Rattle.plc_types.specs.declared.kind.BlockKind.{BlockKind}
-use Rattle.plc_types.specs.declared.kind.BlockKind.TheVariants as kind
 use Rattle.command_pool.specs.declared.notes.Note.{Note}
 use Rattle.command_pool.specs.declared.wanted.Wanted.{Wanted}
 use Rattle.fb_outputs.specs.Replies.{HasNumber, is_error_number}
@@ -111,16 +111,15 @@ joined_told w c h =
 left_told : (w : Wanted) (c : Core) → TellsNumbers c → TellsNumbers (core_after_leaving w c)
 left_told w c h = both c.notes _ h (all_told finish.Aborted (queue_in c) tt)
 
-admitted_told : (k : BlockKind) (w : Wanted) (c : Core) → TellsNumbers c → TellsNumbers
-    (core_after_admission k w c)
-admitted_told kind.Reset w c h = both c.notes _ h (replaced_told c.axis.reset)
-admitted_told kind.GearOut w c h = left_told w c h
-admitted_told kind.CamOut w c h = left_told w c h
-admitted_told _ w c h = joined_told w c h
+admitted_told : (e : Entry) (w : Wanted) (c : Core) → TellsNumbers c → TellsNumbers
+    (core_entered_in e w c)
+admitted_told Awaits w c h = both c.notes _ h (replaced_told c.axis.reset)
+admitted_told Leaves w c h = left_told w c h
+admitted_told Joins w c h = joined_told w c h
 
 verdict_told : (o : Option axis_reason.Reason) (w : Wanted) (c : Core) → TellsNumbers c →
     TellsNumbers (core_after_verdict o w c)
-verdict_told None w c h = admitted_told w.kind
+verdict_told None w c h = admitted_told (profile_of w.kind).entry
     (with_target (known_target_of c.axis (last_of c.waiting) w) w) c h
 verdict_told (Some r) w c h = h
 

@@ -17,7 +17,7 @@ use Rattle.motion_kernel.specs.Machine.{Machine, axis_among, group_among, group_
 use Rattle.motion_kernel.specs.kept.Machine.{AreWhole}
 use Rattle.motion_kernel.proofs.kept.Opening.{none_waits}
 use Rattle.motion_kernel.specs.owners.Kinds.{AreOfTheirBlocks, IsOfItsBlock}
-use Rattle.motion_kernel.specs.owners.Objects.{a_group, an_axis, IsThere, Object, is_same}
+use Rattle.motion_kernel.specs.owners.Objects.{a_group, an_axis, Object, is_same}
 use Rattle.motion_kernel.proofs.owners.commands.Events.{same_object}
 use Rattle.motion_kernel.proofs.owners.kinds.Changes.{BringOwn, all_none_own, all_own, disowned_own}
 use Rattle.motion_kernel.proofs.walk.Events.{executed_alike, found_alike, freed_at, freed_there, replied_alike}

@@ -15,6 +15,8 @@ use Rattle.axis_core.specs.blocks.Moves.{known_target_of, position_of, with_targ
 use Rattle.axis_core.specs.blocks.Reset as axis_resets
 use Rattle.axis_core.specs.declared.axis.Axis.{Axis}
 use Rattle.axis_core.specs.declared.look.AxisLook.{AxisLook}
+use Rattle.axis_core.specs.declared.profile.Entry.{Entry}
+use Rattle.axis_core.specs.declared.profile.Entry.TheVariants.{Joins, Leaves, Awaits}
 use Rattle.axis_core.specs.declared.reason.Reason as axis_reason
 use Rattle.axis_state.specs.States.{is_error_stop}
 use Rattle.buffer_modes.specs.Queue.{is_active_at_once}
@@ -45,14 +47,17 @@ use Rattle.motion_numbers.specs.Ranges.{is_outside}
 use Rattle.motion_laws.proofs.results.outcomes.Done.{EndsNoneDone, HasOneEnd, IsLate, end_more}
 
 -- an axis: a command
-axis_admitted : (x : BlockKind) (w : Wanted) (c : axes.Core) → EndsNoneDone (axis.admitted_changes x w c)
-axis_admitted kind.Reset w c = tt
-axis_admitted kind.GearOut w c = tt
-axis_admitted kind.CamOut w c = tt
-axis_admitted _ w c = by_if EndsNoneDone (is_active_at_once (axis_calls.queue_in c) w) (joins w ∷ holds (axis.is_stop w.kind) ∷ []) (joins w ∷ []) tt tt
+axis_admitted : (e : Entry) (w : Wanted) (c : axes.Core) → EndsNoneDone (axis.entered_changes e w c)
+axis_admitted Awaits w c = tt
+axis_admitted Leaves w c = tt
+axis_admitted Joins w c =
+    by_if EndsNoneDone (is_active_at_once (axis_calls.queue_in c) w)
+    (joins w ∷ holds (axis.is_stop w.kind) ∷ []) (joins w ∷ []) tt tt
 
 axis_asked : (r : Option axis_reason.Reason) (w : Wanted) (c : axes.Core) → EndsNoneDone (axis.asked_changes r w c)
-axis_asked None w c = axis_admitted w.kind (with_target (known_target_of c.axis (last_of c.waiting) w) w) c
+axis_asked None w c =
+    axis_admitted (profile_of w.kind).entry
+    (with_target (known_target_of c.axis (last_of c.waiting) w) w) c
 axis_asked (Some r) w c = tt
 
 pub axis_command : (q : Asked) (c : axes.Core) → EndsNoneDone (axis.command_changes q c)
