@@ -145,7 +145,7 @@ off-carries n course c u =
 
 -- an owner that is taken away
 owned-course : (k : BlockKind) (w : Wanted) (owner : ℕ) → course_by k (record w { owner = pool.without owner w.owner }) ≡ course_by k w
-owned-course kind.Power w owner = refl
+owned-course kind.MoveLinearAbsolute w owner = refl
 owned-course _ w owner = refl
 
 pub detach-carries : (n : ℕ) (course : Course) (owner : ℕ) (c : Core) → IsUnderWay n course c → IsUnderWay n course (disowned owner c)
@@ -203,8 +203,7 @@ command-carries-by kind.GroupReset n course members w jerk c a m none u =
 command-carries-by kind.GroupStop n course members w jerk c a m none u = carried-off n course c.group.active (Some (of_kind kind.GroupStop w)) u.command _ _ u.active
 command-carries-by kind.GroupHalt n course members w jerk c a m none u = carried-off n course c.group.active (Some (of_kind kind.GroupHalt w)) u.command _ _ u.active
 command-carries-by kind.MoveLinearAbsolute n course members w jerk c a m none u = line-carries n course members (of_kind kind.MoveLinearAbsolute w) c u
-command-carries-by kind.MoveCircularAbsolute n course members w jerk c a m none u = carried-on n course c c.path u
-command-carries-by _ n course members w jerk c a m none u = absurd (let made = m.kind in cc)
+command-carries-by _ n course members w jerk c a m none u = carried-on n course c c.path u
 
 asked-carries : (n : ℕ) (course : Course) (members : GroupLook) (w : Wanted) (jerk : ℤ) (c : Core) (o : Option Reason) → IsAsked members c → IsMade c.group.axes w →
     refusal_of (asked_in c w jerk members) ≡ o → IsUnderWay n course c → Carries n course (asked_fate o w c) (commanded_by o members w c)

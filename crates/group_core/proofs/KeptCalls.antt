@@ -117,8 +117,7 @@ may-by kind.MoveLinearAbsolute members w jerk c a m n =
           (a.look.setpoints (takes-within c.group.state (is_moving c.path) come)) (targets-of members c (of_kind kind.MoveLinearAbsolute w) a m n.1.1.1.1.0);
       place = and-right (not (is_aborting w.mode)) (is_some c.group.active) (nat_eq (length c.waiting) 8) n.1.1.1.1.1.0;
     }
-may-by kind.MoveCircularAbsolute members w jerk c a m n = tt
-may-by _ members w jerk c a m n = absurd (let made = m.kind in cc)
+may-by _ members w jerk c a m n = tt
 
 pub may-admit : (members : GroupLook) (w : Wanted) (jerk : ℤ) (c : Core) → IsAsked members c → IsMade c.group.axes w →
     refusal_of (asked_in c w jerk members) ≡ None → MayAdmit w.kind members w c
@@ -394,8 +393,7 @@ kept-by laws kind.MoveLinearAbsolute members w jerk c a m n =
       };
       come = not-false _ n.1.1.1.1.1.1.0;
     })
-kept-by laws kind.MoveCircularAbsolute members w jerk c a m n = a.kept
-kept-by laws _ members w jerk c a m n = absurd (let made = m.kind in cc)
+kept-by laws _ members w jerk c a m n = a.kept
 
 pub admitted-kept : Standing → (members : GroupLook) (w : Wanted) (jerk : ℤ) (c : Core) → IsAsked members c → IsMade c.group.axes w →
     refusal_of (asked_in c w jerk members) ≡ None → IsCoreKept (limits_in members) (admitted_by w.kind members w c)

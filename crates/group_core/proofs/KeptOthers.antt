@@ -57,7 +57,7 @@ owned-state owner state.GroupErrorStop p active i = owned-none owner active i
 owned-state owner state.GroupHoming p active i = absurd i
 
 numbers-of : (k : BlockKind) (v : Wanted) (owner : ℕ) → AreNumbers k v → AreNumbers k (record v { owner = pool.without owner v.owner })
-numbers-of kind.Power v owner n = n
+numbers-of kind.MoveLinearAbsolute v owner n = n
 numbers-of _ v owner n = n
 
 owned-active : (owner : ℕ) (s : GroupState) (active : Option Wanted) → ((w : Wanted) → active ≡ Some w → IsActive s w) → (w : Wanted) → active_without owner active ≡ Some w → IsActive s w

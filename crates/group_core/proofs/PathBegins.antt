@@ -79,8 +79,7 @@ began-by kind.GroupStop members axis w jerk c a m inside n q h = began-halt memb
 began-by kind.GroupHalt members axis w jerk c a m inside n q h = began-halt members axis c.path inside q h
 began-by kind.MoveLinearAbsolute members axis w jerk c a m inside n q h =
     began-line members axis (of_kind kind.MoveLinearAbsolute w) c inside (not-false _ n.1.1.1.1.1.1.0) a.kept.state q h
-began-by kind.MoveCircularAbsolute members axis w jerk c a m inside n q h = inl h
-began-by _ members axis w jerk c a m inside n q h = absurd (let made = m.kind in cc)
+began-by _ members axis w jerk c a m inside n q h = inl h
 
 began-asked : (members : GroupLook) (axis : ℕ) (w : Wanted) (jerk : ℤ) (c : Core) (o : Option Reason) → IsAsked members c → IsMade c.group.axes w → axis < members.count →
     refusal_of (asked_in c w jerk members) ≡ o → BeganAt members axis c.path (commanded_by o members w c).path
@@ -140,8 +139,7 @@ left-by kind.GroupReset members w jerk c a m n = same-left c.path
 left-by kind.GroupStop members w jerk c a m n = left-halt _ _ c.path
 left-by kind.GroupHalt members w jerk c a m n = left-halt _ _ c.path
 left-by kind.MoveLinearAbsolute members w jerk c a m n = left-line members (of_kind kind.MoveLinearAbsolute w) c
-left-by kind.MoveCircularAbsolute members w jerk c a m n = same-left c.path
-left-by _ members w jerk c a m n = absurd (let made = m.kind in cc)
+left-by _ members w jerk c a m n = same-left c.path
 
 left-asked : (members : GroupLook) (w : Wanted) (jerk : ℤ) (c : Core) (o : Option Reason) → IsAsked members c → IsMade c.group.axes w →
     refusal_of (asked_in c w jerk members) ≡ o → LeavesAt c.path (commanded_by o members w c).path

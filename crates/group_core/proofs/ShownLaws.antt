@@ -122,8 +122,7 @@ shown-by kind.GroupStop members w jerk c m n k =
 shown-by kind.GroupHalt members w jerk c m n k =
     clear-shown _ (record { sound = refl; free = refl }) (k.clear (halts-clear c.group.state (is_moving c.path) (not-false _ n.1.1.0)).sound) refl
 shown-by kind.MoveLinearAbsolute members w jerk c m n k = line-shown members w c (not-false _ n.1.1.1.1.1.1.0) k
-shown-by kind.MoveCircularAbsolute members w jerk c m n k = k
-shown-by _ members w jerk c m n k = absurd (let made = m.kind in cc)
+shown-by _ members w jerk c m n k = k
 
 shown-asked : (o : Option Reason) (members : GroupLook) (w : Wanted) (jerk : ℤ) (c : Core) → IsMade c.group.axes w → refusal_of (asked_in c w jerk members) ≡ o → IsShown c.group →
     IsShown (commanded_by o members w c).group

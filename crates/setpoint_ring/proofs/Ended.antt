@@ -117,32 +117,11 @@ end_first (End ∷ xs) zs seen empty = refl
 pub no_more : (xs ys : List ToDrive) → IsPrefix xs ys → has_end xs ≡ true → outputs_of xs ≡ [] → outputs_of ys ≡ []
 no_more xs ys p seen empty = sym (ap outputs_of p.1) ∙ end_first xs p.0 seen empty
 
--- what it says that the end is next
-pub end_next : (xs : List ToDrive) → next_of xs ≡ next.End → (has_end xs ≡ true) × (outputs_of xs ≡ [])
-end_next [] is = absurd (cc)
-end_next (Output x ∷ xs) is = absurd (cc)
-end_next (End ∷ xs) is = (refl, refl)
-
-pub next_end : (xs : List ToDrive) → has_end xs ≡ true → outputs_of xs ≡ [] → next_of xs ≡ next.End
-next_end [] seen empty = absurd (cc)
-next_end (Output x ∷ xs) seen empty = absurd (cc)
-next_end (End ∷ xs) seen empty = refl
-
 -- where no output is next none waits
 pub none_waits : (xs : List ToDrive) → (next_of xs ≡ next.Output → ⊥) → outputs_of xs ≡ []
 none_waits [] other = refl
 none_waits (Output x ∷ xs) other = absurd (other refl)
 none_waits (End ∷ xs) other = refl
-
--- what is next, by the first of what is known
-pub first_next : (x : ToDrive) (xs : List ToDrive) → IsPrefix (x ∷ []) xs → next_of (x ∷ []) ≡ next_of xs
-first_next (Output x) xs p = ap next_of p.1
-first_next End xs p = ap next_of p.1
-
--- and of nothing
-pub nothing_next : (xs : List ToDrive) → length xs ≡ 0 → next.Nothing ≡ next_of xs
-nothing_next [] none = refl
-nothing_next (x ∷ xs) none = absurd (cc)
 
 pub none_waited : (xs ys : List ToDrive) → IsPrefix xs ys → outputs_of ys ≡ [] → outputs_of xs ≡ []
 none_waited [] ys p empty = refl

@@ -2,7 +2,6 @@
 -- for: push
 use Rattle.std.proofs.Common.{arith, ◌≡◌, ℕ, suc, ◌+◌, List, [], ◌∷◌, ◌++◌, length, length-append, Option, Some, None, refl, sym, ap, ◌∙◌}
 use Rattle.std.specs.List.{last_or}
-use mathlib.Core.List.{IsPrefix}
 use Rattle.setpoint_ring.specs.declared.numbered.Numbered.{Numbered}
 use Rattle.setpoint_ring.specs.Order.{items_of}
 
@@ -14,10 +13,6 @@ module _ {T : Type 0} where
   pub items_more : (xs ys : List (Numbered T)) → items_of (xs ++ ys) ≡ items_of xs ++ items_of ys
   items_more [] ys = refl
   items_more (x ∷ xs) ys = ap (λ zs. x.item ∷ zs) (items_more xs ys)
-
-  -- items that begin others begin them also without their numbers
-  pub items_prefix : (known : List T) (xs ys : List (Numbered T)) → items_of xs ≡ known → IsPrefix xs ys → IsPrefix known (items_of ys)
-  items_prefix known xs ys e p = (items_of p.0, ap (λ zs. zs ++ items_of p.0) (sym e) ∙ sym (items_more xs p.0) ∙ ap items_of p.1)
 
   last_more : (o : Option T) (xs : List T) (x : T) → last_or o (xs ++ x ∷ []) ≡ Some x
   last_more o [] x = refl
