@@ -1,11 +1,10 @@
 -- A group of a machine by its parts.
 -- for: are_groups_in_state
-use Rattle.std.specs.Prelude.{◌≡◌, ◌↔◌, ◌⊎◌, ℕ, ◌+◌, ◌<◌, Option, Some, List, [], length, map, slice_get, slice_index_or}
+use Rattle.std.specs.Prelude.{◌≡◌, ◌⊎◌, ℕ, ◌<◌, Option, Some, List, [], length, map, slice_get, slice_index_or}
 use Rattle.std.proofs.Common.{arith, sym, ap, ◌∙◌}
 use Rattle.std.proofs.lemmas.List.{get_or-map, length-map}
 use Rattle.std.proofs.lemmas.List.Elements.{All-get_or}
 use Rattle.std.proofs.lemmas.Option.{get_or_from_slice_get}
-use Rattle.command_pool.specs.Waiting.{queue_of}
 use Rattle.command_pool.specs.declared.wanted.Wanted.{Wanted}
 use Rattle.group_core.specs.GroupKept as group
 use Rattle.group_core.specs.GroupKept.{AreGroupLimits, AreWaiting, IsPathOf}
@@ -18,7 +17,7 @@ use Rattle.motion_history.specs.AxisRanges.{AreAxisRanges}
 use Rattle.motion_history.specs.Configurations.{IsSound}
 use Rattle.motion_history.specs.Setup.{Setup, IsSetup}
 use Rattle.motion_kernel.specs.Machine.{Machine, PlacedGroup, group_at, no_group}
-use Rattle.motion_kernel.specs.kept.Machine.{IsGroupKept, limits_of, no_def}
+use Rattle.motion_kernel.specs.kept.Machine.{limits_of, no_def}
 use Rattle.motion_kernel.specs.members.Members.{member_at, members_at}
 use Rattle.motion_kernel.proofs.kept.Ready.{member_there}
 use Rattle.kernel_invariants.specs.Parts.{IsOrdered}
@@ -26,17 +25,6 @@ use Rattle.kernel_invariants.specs.Parts.{IsOrdered}
 -- the group that is found
 pub there_is : (m : Machine) (j : ℕ) (g : PlacedGroup) → Some g ≡ slice_get m.groups j → group_at m j ≡ g
 there_is m j g e = get_or_from_slice_get m.groups j g no_group (sym e)
-
--- a group has as many axes as its configuration says, and is kept with their limits
-pub kept_by_parts : (s : Setup) (m : Machine) (j : ℕ) (g : PlacedGroup) (ls : List Limits) → group_at m j ≡ g → ls ≡ map (limits_of s) (members_at s j) →
-    ((g.group.axes ≡ length (members_at s j)) × group.IsGroupKept ls g.group g.path (queue_of m.queues (length m.axes + j))) ↔ IsGroupKept s m j
-kept_by_parts s m j g ls is limits = (
-  λ h. record {
-    core = rw (is, ← limits) h.1;
-    count = rw is h.0;
-  },
-  λ k. let count = k.count in let core = k.core in (rw (← is) count, rw (← is, limits) core),
-)
 
 -- the limits of a group's axes are in their ranges
 pub ranges_of : ((s : Setup) → IsSetup s → IsSound s) → (s : Setup) (j : ℕ) (ms : List ℕ) (ls : List Limits) → IsSetup s → j < length s.groups →

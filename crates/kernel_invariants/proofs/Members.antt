@@ -1,6 +1,6 @@
 -- Where an axis of a group is, by the parts of its group.
 -- for: is_axis_kept, is_machine_kept
-use Rattle.std.specs.Prelude.{◌≡◌, ◌↔◌, ℕ, Bool, false, Some, None, IsTrue}
+use Rattle.std.specs.Prelude.{◌≡◌, ◌↔◌, ℕ, Bool, Some, IsTrue}
 use Rattle.std.proofs.Common.{ap}
 use Rattle.axis_core.specs.Cores.{Core}
 use Rattle.axis_core.specs.declared.axis.Axis.{Axis}
@@ -26,9 +26,3 @@ on_its_path on t place a b is law c same =
           let stands : StandsOn h.path place a.previous a.setpoint = rw (← same) h.stands in
           law.1 (rw p stands),
     )
-
--- and on none without one
-pub on_no_path : (on : GroupOnPath LinePath) (place : ℕ) (c : Core) → on.track ≡ None → IsTrue false ↔ IsOnItsPath (placed on) place c
-on_no_path on place c is =
-    let there : on_path on.track ≡ None = ap on_path is in
-    (λ yes. absurd (cc), λ h. absurd (let found = h.on in cc))

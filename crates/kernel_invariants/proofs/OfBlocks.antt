@@ -1,6 +1,6 @@
 -- Commands that are of the kinds of their instances' blocks, part by part.
 -- for: have_kinds_of_blocks
-use Rattle.std.specs.Prelude.{◌≡◌, ◌↔◌, refl, ℕ, zero, suc, ◌<◌, Bool, false, IsTrue, IfSome, Option, Some, None, List, [], ◌∷◌, length, slice_get}
+use Rattle.std.specs.Prelude.{◌≡◌, ◌↔◌, refl, ℕ, zero, suc, ◌<◌, Bool, IsTrue, IfSome, Option, Some, None, List, [], ◌∷◌, length}
 use Rattle.std.specs.List.{AllByRecursion}
 use Rattle.std.proofs.Common.{subst, sym}
 use Rattle.command_core.specs.CommandState.{CommandState}

@@ -1,6 +1,6 @@
 -- What an instance shows of its commands, by counts.
 -- for: are_commands_shown
-use Rattle.std.specs.Prelude.{◌≡◌, ◌↔◌, refl, ℕ, zero, suc, ◌+◌, ◌<◌, Bool, true, false, not, ◌&&◌, IsTrue, if◌then◌else◌, Option, Some, None, List, [], ◌∷◌, ◌++◌, length, slice_get, slice_index_or, take}
+use Rattle.std.specs.Prelude.{◌≡◌, ◌↔◌, refl, ℕ, ◌+◌, ◌<◌, Bool, true, false, not, ◌&&◌, IsTrue, if◌then◌else◌, Option, Some, None, List, [], ◌∷◌, ◌++◌, length, slice_get, slice_index_or, take}
 use Rattle.std.proofs.Common.{arith, ap, sym, subst, inl, inr, ◌∙◌}
 use Rattle.std.proofs.lemmas.Bool.{cases_Bool, cases_eq}
 use Rattle.std.proofs.lemmas.List.{take_more}
@@ -9,10 +9,8 @@ use Rattle.buffer_modes.specs.Owners.{owner_count, waits_of}
 use Rattle.command_core.specs.CommandState.{owns}
 use Rattle.command_pool.specs.declared.wanted.Wanted.{Wanted}
 use Rattle.fb_outputs.specs.Steps.{is_power}
-use Rattle.fb_outputs.specs.declared.instance.Progress.{Progress}
 use Rattle.kernel_invariants.specs.Owned.{owners_of}
-use Rattle.kernel_invariants.specs.Showing.{Shows, ShowsOn, ShowsWhere}
-use Rattle.kernel_invariants.specs.declared.owners.commands.Owners.{Owners}
+use Rattle.kernel_invariants.specs.Showing.{ShowsOn, ShowsWhere}
 use Rattle.motion_history.specs.Setup.{Setup}
 use Rattle.motion_history.specs.declared.config.BlockDef.{BlockDef}
 use Rattle.motion_kernel.proofs.owners.commands.Events.{is_itself, same_object}
@@ -47,31 +45,6 @@ active_of_it : (m : Machine) (k : ℕ) (o : Object) →
     active_at m k o ≡ owner_count k (owners_of (command_state_at m o)).active
 active_of_it m k (an_axis n) = refl
 active_of_it m k (a_group j) = refl
-
--- a test of the parts is one of what an instance shows
-pub shows_object : (m : Machine) (k waits : ℕ) (o : Object) (owners : Owners) (progress : Progress)
-    (b : Bool) → owners ≡ owners_of (command_state_at m o) →
-    waits ≡ waits_of k (command_state_at m o).waiting →
-    progress ≡ (instance_at m.instances k).progress →
-    IsTrue b ↔ Shows k waits owners progress → IsTrue b ↔ ShowsOn m k o
-shows_object m k waits o owners progress b who which so test =
-    let c = command_state_at m o in
-    let now = (instance_at m.instances k).progress in
-    let there : Shows k waits owners progress → Shows k (waits_of k c.waiting) (owners_of c) now =
-    λ h. subst (λ x. Shows k (waits_of k c.waiting) (owners_of c) x) so
-    (subst (λ x. Shows k x (owners_of c) progress) which
-    (subst (λ x. Shows k waits x progress) who h)) in
-    let back : Shows k (waits_of k c.waiting) (owners_of c) now → Shows k waits owners progress =
-    λ h. subst (λ x. Shows k waits x progress) (sym who)
-    (subst (λ x. Shows k x (owners_of c) progress) (sym which)
-    (subst (λ x. Shows k (waits_of k c.waiting) (owners_of c) x) (sym so) h)) in (
-      λ yes. let h = there (test.0 yes) in
-          record { commands = all_of m k o ∙ h.commands; active = active_of_it m k o ∙ h.active },
-      λ h. test.1 (back (record {
-        commands = sym (all_of m k o) ∙ h.commands;
-        active = sym (active_of_it m k o) ∙ h.active;
-      })),
-    )
 
 -- a block acts on one axis or group
 acts_on : (s : Setup) (k : ℕ) (b : BlockDef) (o : Object) → slice_get s.blocks k ≡ Some b →
@@ -157,12 +130,3 @@ module _ (s : Setup) (m : Machine) (owners : OwnersHaveBlocks s m) where
             | inl on ↦ subst R (sym on) (h k (instance_there s k o on) o there on).active
             | inr off ↦ subst R (sym off) (less k o (none_at k o there off))
           ]
-
-pub each_shown : (s : Setup) (m : Machine) → CommandsAreShown s m → ActiveAreShown s m → (k : ℕ) →
-    ShowsWhere s m k
-each_shown s m commands active k o there on = record {
-  commands = commands k o there
-      ∙ ap (λ x. if x then commands_shown (instance_at m.instances k).progress else 0) on;
-  active = active k o there
-      ∙ ap (λ x. if x then active_shown (instance_at m.instances k).progress else 0) on;
-}

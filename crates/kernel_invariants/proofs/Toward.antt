@@ -1,12 +1,12 @@
 -- The path of a group leads to the targets of its line.
 -- for: are_groups_in_state
-use Rattle.std.specs.Prelude.{◌≡◌, ◌↔◌, refl, Bool, true, IsTrue, ℤ, Option, Some, List}
+use Rattle.std.specs.Prelude.{◌≡◌, ◌↔◌, Bool, IsTrue, Some}
 use Rattle.std.specs.Cmp.Rules.{signed_items}
 use Rattle.std.specs.Ordering.{int_eq}
-use Rattle.std.proofs.Common.{ap, sym, subst, ◌∙◌}
+use Rattle.std.proofs.Common.{ap, sym, ◌∙◌}
 use Rattle.plc_types.specs.declared.kind.BlockKind.TheVariants as kind
 use Rattle.command_pool.specs.declared.wanted.Wanted.{Wanted}
-use Rattle.group_core.specs.Seen.{on_path, way_of}
+use Rattle.group_core.specs.Seen.{on_path}
 use Rattle.group_core.specs.Targets.{IsToward}
 use Rattle.group_core.specs.Tracks.{OnPath}
 use Rattle.group_core.specs.declared.group.GroupOnPath.{GroupOnPath}

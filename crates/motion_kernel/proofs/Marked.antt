@@ -1,10 +1,10 @@
 -- The marks of tasks at opening and with one entry more.
 -- for: call, cycle, end and others
-use Rattle.std.specs.Prelude.{◌≡◌, refl, ℕ, suc, zero, ◌+◌, ◌<◌, ◌≤◌, Bool, true, false, not, ◌&&◌, ◌||◌, nat_eq, Option, Some, None, if◌then◌else◌, List, [], ◌∷◌, ◌++◌, length, map, replicate, reverse, slice_get, slice_set, take}
+use Rattle.std.specs.Prelude.{◌≡◌, refl, ℕ, suc, zero, ◌+◌, ◌<◌, ◌≤◌, Bool, true, false, not, ◌&&◌, ◌||◌, nat_eq, Option, Some, None, if◌then◌else◌, List, [], ◌∷◌, ◌++◌, length, map, reverse, slice_get, slice_set, take}
 use Rattle.std.specs.List.{filter, list_any, take_while}
 use Rattle.std.proofs.Common.{arith, ap, sym, ◌∙◌, inl, inr}
 use Rattle.std.proofs.lemmas.Bool.{cases_Bool, eqb-false, eqb-true}
-use Rattle.std.proofs.lemmas.List.{get_or-replicate, get_or-set_other, get_or-set_same, length-map, length-replicate, length-set, get_or-map, reverse-append}
+use Rattle.std.proofs.lemmas.List.{get_or-set_other, get_or-set_same, length-map, length-set, get_or-map, reverse-append}
 use Rattle.std.proofs.lemmas.List.Folds.{list_any-append}
 use Rattle.std.proofs.lemmas.List.Filters.{length-filter_more}
 use Rattle.std.proofs.lemmas.Option.{slice_get_within}
@@ -56,10 +56,6 @@ mark_quieted true false = refl
 mark_quieted false true = refl
 mark_quieted false false = refl
 
--- the mark of a task, by whether it has ended and whether it has made an entry
-mark_is : (s : Setup) (es : List Entry) (t : ℕ) → mark_of s es t ≡ marked (list_any (ends t) es) (list_any (is_by s t) (since_cycle es))
-mark_is s es t = refl
-
 by_call : (a b c : Bool) → marked a (c || b) ≡ (if c then heard (marked a b) else marked a b)
 by_call a b true = mark_heard a b
 by_call a b false = refl
@@ -95,14 +91,6 @@ mark_cycled s es e t is other =
     let a = list_any (ends t) es in
     let b = list_any (is_by s t) (since_cycle es) in
     (λ j. marked ((any_more (ends t) es e ∙ ap (λ c. a || c) other ∙ or_false a) j) (list_any (is_by s t) (since_none es e is j))) ∙ mark_quieted a b
-
--- no task has made an entry at opening
-pub marked_opened : (s : Setup) (marks : List TaskMark) → marks ≡ replicate 8 Quiet → length s.tasks ≤ 8 → AreMarked s [] marks
-marked_opened s marks are few = rw are (record {
-  long = length-replicate 8 Quiet;
-  few = few;
-  each = λ t l. get_or-replicate 8 t Quiet Quiet (omega (arith, l, few));
-})
 
 -- a call is an entry of its block's task
 pub marked_called : (s : Setup) (es : List Entry) (marks next : List TaskMark) (k : ℕ) (i : Inputs) (reply : Outputs) (b : BlockDef) →

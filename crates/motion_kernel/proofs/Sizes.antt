@@ -78,10 +78,6 @@ sized_found s m k b h = record {
   instances = told_found_length (found_by b.kind m.axes m.groups k b.object) k m.instances ∙ h.instances;
 }
 
--- how many instances there are after an axis's event
-pub axis_instances : (m : Machine) (n : ℕ) (c : axis.Core) → length (with_axis_core m n c).instances ≡ length m.instances
-axis_instances m n c = told_length c.notes m.instances
-
 -- axes that are led are as many as before
 pub sized_led : (s : Setup) (on : Bool) (members : List ℕ) (m : Machine) → IsSized s m → IsSized s (axes_led on members m)
 sized_led s on [] m h = h

@@ -1,18 +1,21 @@
 // The command that a call asks for.
 
 ghost use Rattle.std.specs.Prelude.{◌≡◌};
+ghost use Rattle.axis_core.specs.Kinds.{is_leaving};
+ghost use Rattle.axis_core.specs.Profiles.{profile_of};
 ghost use Rattle.motion_kernel.specs.calls.Asking as spec;
 
+use axis_core::{Entry, Goal, Manner, profile_for};
 use command_pool::{Follow, Rates, Wanted};
 use plc_types::{BlockKind, Inputs};
 
-// The target that a call fixes: the first position of a MoveAbsolute and a Home.
+// The target that a call fixes: the first position, where the command's target comes of the call.
 fn target_of(kind: BlockKind, inputs: &Inputs) -> Option<i64>
     ensures { result ≡ spec.target_of kind inputs.now }
 {
-    match kind {
-        BlockKind::MoveAbsolute | BlockKind::Home => Some(inputs.positions[0]),
-        _ => None,
+    match profile_for(kind).goal {
+        Goal::Given | Goal::Origin => Some(inputs.positions[0]),
+        Goal::NoGoal | Goal::FromBefore(_) => None,
     }
 }
 
@@ -20,13 +23,13 @@ fn target_of(kind: BlockKind, inputs: &Inputs) -> Option<i64>
 fn follow_of(kind: BlockKind, inputs: &Inputs) -> Follow
     ensures { result ≡ spec.follow_of kind inputs.now }
 {
-    match kind {
-        BlockKind::GearIn => Follow::Gear {
+    match profile_for(kind).manner {
+        Manner::Gears => Follow::Gear {
             master: inputs.master,
             n: inputs.numerator,
             d: inputs.denominator,
         },
-        BlockKind::CamIn => Follow::Cam {
+        Manner::Cams => Follow::Cam {
             master: inputs.master,
             table: inputs.table,
         },
@@ -53,12 +56,19 @@ pub fn wanted_of(instance: u16, kind: BlockKind, inputs: &Inputs) -> Wanted
     }
 }
 
+// Whether a block of an axis ends a gear or a cam.
+fn leaves(kind: BlockKind) -> bool
+    ensures { result ≡ is_leaving (profile_of kind).entry }
+{
+    matches!(profile_for(kind).entry, Entry::Leaves)
+}
+
 /// Whether a block is Done in the call that admits it.
 pub fn is_done_at_once(kind: BlockKind) -> bool
     ensures { result ≡ spec.is_done_at_once kind }
 {
-    matches!(
-        kind,
-        BlockKind::GearOut | BlockKind::CamOut | BlockKind::GroupEnable | BlockKind::GroupDisable
-    )
+    match kind {
+        BlockKind::GroupEnable | BlockKind::GroupDisable => true,
+        _ => leaves(kind),
+    }
 }

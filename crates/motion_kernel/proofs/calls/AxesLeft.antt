@@ -11,8 +11,7 @@ use Rattle.axis_core.specs.declared.axis.Axis.{Axis}
 use Rattle.plc_types.specs.Kinds.{acts_on_group}
 use Rattle.command_pool.specs.declared.ending.Refusal.{Refusal}
 use Rattle.plc_types.specs.declared.kind.BlockKind.{BlockKind}
-use Rattle.plc_types.specs.declared.kind.BlockKind.TheVariants as kind
-use Rattle.fb_outputs.specs.Steps.{edge_of}
+use Rattle.fb_outputs.specs.Steps.{edge_of, is_power}
 use Rattle.plc_types.specs.declared.inputs.Inputs.{Inputs}
 use Rattle.fb_outputs.specs.declared.instance.Edge.{Edge}
 use Rattle.fb_outputs.specs.declared.instance.Edge.TheVariants as edge
@@ -134,8 +133,9 @@ edge_left R laws s edge.Falling k b i m = all_alone R laws m
 edge_left R laws s edge.Low k b i m = all_alone R laws m
 
 asking_left : (R : Axis → Axis → Type 0) → CallsLeave R → (s : Setup) (kind : BlockKind) (e : Edge) (k : ℕ) (b : BlockDef) (i : Inputs) (m : Machine) → AllLeft R m (after_asking s kind e k b i m)
-asking_left R laws s kind.Power e k b i m = power_left R laws s b.object i.execute m
-asking_left R laws s _ e k b i m = edge_left R laws s e k b i m
+asking_left R laws s kind e k b i m =
+    by_if (AllLeft R m) (is_power kind) (after_power s b.object i.execute m) (after_edge s e k b i m)
+    (power_left R laws s b.object i.execute m) (edge_left R laws s e k b i m)
 
 called_left : (R : Axis → Axis → Type 0) → CallsLeave R → (s : Setup) (o : Option BlockDef) (k : ℕ) (i : Inputs) (m : Machine) → AllLeft R m (called_where s o k i m)
 called_left R laws s None k i m = all_alone R laws m

@@ -79,10 +79,8 @@ told_more (x ∷ ks) k blocks axes groups is = told_more ks k blocks axes groups
 
 -- an instance of a block of another kind finds nothing
 finds_nothing : (k : BlockKind) (axes : List Axis) (groups : List PlacedGroup) (n at : ℕ) → finds k ≡ false → found_by k axes groups n at ≡ None
-finds_nothing kind.Power axes groups n at h = absurd (cc)
-finds_nothing kind.Stop axes groups n at h = absurd (cc)
-finds_nothing kind.GroupStop axes groups n at h = absurd (cc)
-finds_nothing kind axes groups n at h = refl
+finds_nothing kind.GroupStop axes groups n at h = cc
+finds_nothing _ axes groups n at h = cc
 
 chosen : (b : Bool) (d : BlockDef) (ks : List ℕ) (k : ℕ) (blocks : List BlockDef) (axes : List Axis) (groups : List PlacedGroup)
     (is : List InstanceState) → finds d.kind ≡ b → slice_get blocks k ≡ Some d →

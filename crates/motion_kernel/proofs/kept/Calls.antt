@@ -1,12 +1,12 @@
 -- A machine stays kept by a call.
 -- for: machines_stay_kept, call, cycle and others
-use Rattle.std.specs.Prelude.{◌≡◌, refl, ℕ, ◌<◌, true, false, Option, Some, None, length, slice_get, slice_index_or, if◌then◌else◌}
-use Rattle.std.proofs.Common.{arith, ap, sym, subst, ◌∙◌, inl, inr}
-use Rattle.std.proofs.lemmas.Bool.{cases_Bool}
+use Rattle.std.specs.Prelude.{◌≡◌, refl, ℕ, ◌<◌, true, false, not, Option, Some, None, length, slice_get, slice_index_or, if◌then◌else◌}
+use Rattle.std.proofs.Common.{arith, sym, subst, ◌∙◌, inl, inr}
+use Rattle.std.proofs.lemmas.Bool.{cases_Bool, not-true}
 use Rattle.std.proofs.lemmas.List.Elements.{All-get_or}
 use Rattle.plc_types.specs.Kinds.{acts_on_group}
 use Rattle.plc_types.specs.declared.kind.BlockKind.{BlockKind}
-use Rattle.plc_types.specs.declared.kind.BlockKind.TheVariants as kind
+use Rattle.plc_types.proofs.EveryKind.{every-kind-that}
 use Rattle.fb_outputs.specs.Steps.{edge_of, is_power}
 use Rattle.plc_types.specs.declared.inputs.Inputs.{Inputs}
 use Rattle.fb_outputs.specs.declared.instance.Edge.{Edge}
@@ -15,7 +15,7 @@ use Rattle.motion_history.specs.Calls.{IsCall}
 use Rattle.motion_history.specs.Configurations.{IsBlock}
 use Rattle.motion_history.specs.Setup.{Setup, IsSetup}
 use Rattle.motion_history.specs.declared.config.BlockDef.{BlockDef}
-use Rattle.motion_kernel.specs.calls.Calls.{after_asking, after_axis_command, after_call, after_edge, after_group_command, after_rising, called, called_where, without_owner}
+use Rattle.motion_kernel.specs.calls.Calls.{after_asking, after_axis_command, after_call, after_edge, after_group_command, after_power, after_rising, called, called_where, without_owner}
 use Rattle.motion_kernel.specs.Machine.{Machine, group_at, instance_at}
 use Rattle.motion_kernel.specs.kept.Machine.{AreWhole, IsMachineKept}
 use Rattle.motion_kernel.proofs.kept.AxisCalls.{PowerLaws, axis_command_kept, power_kept}
@@ -24,6 +24,7 @@ use Rattle.motion_kernel.proofs.kept.GroupCommands.{CommandLaws}
 use Rattle.motion_kernel.proofs.kept.GroupCalls.{group_command_kept}
 use Rattle.motion_kernel.proofs.kept.Laws.{AxesKeepDefinitions, AxesStayKept, AxesStayLed, ConfigurationsAreSound, GroupsComeAlive, GroupsKeepAxes, GroupsStayKept, HeldTakeNoCommand, MembersKeepLimits, PathsChange}
 use Rattle.motion_kernel.proofs.Lists.{get_is}
+use Rattle.motion_kernel.proofs.walk.ByTest.{one}
 use Rattle.motion_kernel.proofs.kept.MadeCommands.{axis_made, group_made}
 use Rattle.motion_kernel.proofs.kept.Detached.{disowned_kept}
 
@@ -92,24 +93,29 @@ edge_kept laws s edge.High k b i m whole at call other h = h
 edge_kept laws s edge.Falling k b i m whole at call other h = h
 edge_kept laws s edge.Low k b i m whole at call other h = h
 
+-- a Power acts on an axis
+pub power_acts : (k : BlockKind) → is_power k ≡ true → acts_on_group k ≡ false
+power_acts k e = not-true _ (every-kind-that is_power (λ x. not (acts_on_group x)) refl k e)
+
 power_called : CallLaws → (s : Setup) (k : ℕ) (b : BlockDef) (i : Inputs) (m : Machine) → slice_get s.blocks k ≡ Some b → IsCall s k i →
-    b.kind ≡ kind.Power → IsMachineKept s m → IsMachineKept s (after_asking s kind.Power edge.Low k b i m)
+    is_power b.kind ≡ true → IsMachineKept s m → IsMachineKept s (after_power s b.object i.execute m)
 power_called laws s k b i m at call e h =
     let sizes = h.sized in
     let axes = sizes.axes in
-    let there = axis_object laws.sound s k b sizes.setup call.there at (ap acts_on_group e) in
+    let there = axis_object laws.sound s k b sizes.setup call.there at (power_acts b.kind e) in
     power_kept (power_laws laws) s b.object i.execute m h (omega arith)
 
-asking_kept : CallLaws → (s : Setup) (kind : BlockKind) (e : Edge) (k : ℕ) (b : BlockDef) (i : Inputs) (m : Machine) → AreWhole s →
-    slice_get s.blocks k ≡ Some b → IsCall s k i → b.kind ≡ kind → IsMachineKept s m → IsMachineKept s (after_asking s kind e k b i m)
-asking_kept laws s kind.Power e k b i m whole at call is h = power_called laws s k b i m at call is h
-asking_kept laws s _ e k b i m whole at call is h = edge_kept laws s e k b i m whole at call (ap is_power is) h
+asking_kept : CallLaws → (s : Setup) (e : Edge) (k : ℕ) (b : BlockDef) (i : Inputs) (m : Machine) → AreWhole s →
+    slice_get s.blocks k ≡ Some b → IsCall s k i → IsMachineKept s m → IsMachineKept s (after_asking s b.kind e k b i m)
+asking_kept laws s e k b i m whole at call h =
+    one (IsMachineKept s) (is_power b.kind) (after_power s b.object i.execute m) (after_edge s e k b i m)
+    (λ is. power_called laws s k b i m at call is h) (λ other. edge_kept laws s e k b i m whole at call other h)
 
 called_kept_where : CallLaws → (s : Setup) (o : Option BlockDef) (k : ℕ) (i : Inputs) (m : Machine) → AreWhole s → slice_get s.blocks k ≡ o → IsCall s k i →
     IsMachineKept s m → IsMachineKept s (called_where s o k i m)
 called_kept_where laws s None k i m whole at call h = h
 called_kept_where laws s (Some b) k i m whole at call h =
-    asking_kept laws s b.kind (edge_of (instance_at m.instances k).execute i.execute) k b i _ whole at call refl (instance_kept s m k _ h)
+    asking_kept laws s (edge_of (instance_at m.instances k).execute i.execute) k b i _ whole at call (instance_kept s m k _ h)
 
 -- a machine is kept by a call, before its reply is shown and after it
 pub called_kept : CallLaws → (s : Setup) (k : ℕ) (i : Inputs) (m : Machine) → AreWhole s → IsCall s k i → IsMachineKept s m → IsMachineKept s (called s k i m)

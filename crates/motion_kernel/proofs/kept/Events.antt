@@ -7,7 +7,6 @@ use Rattle.std.proofs.lemmas.List.{get_or-set_other, get_or-set_same, length-set
 use Rattle.axis_core.specs.AxisKept as axis
 use Rattle.axis_core.specs.Cores as cores
 use Rattle.command_pool.specs.Waiting.{queue_of}
-use Rattle.command_pool.specs.declared.notes.Note.{Note}
 use Rattle.fb_outputs.specs.InstanceState.{InstanceState}
 use Rattle.group_core.specs.Cores as group_cores
 use Rattle.group_core.specs.GroupKept as group
@@ -16,7 +15,6 @@ use Rattle.motion_kernel.specs.calls.Calls.{with_axis_core, with_group_core, wit
 use Rattle.motion_kernel.specs.Machine.{Machine, PlacedGroup, axis_at, axis_core_at, group_at, group_core_at, list_of, no_axis, no_group}
 use Rattle.motion_kernel.specs.kept.Machine.{IsAxisKept, IsGroupKept, IsMachineKept, IsMember, IsPlaced, IsSized, limits_of}
 use Rattle.motion_kernel.specs.members.Members.{member_at, members_at, membership_of}
-use Rattle.motion_kernel.specs.calls.Telling.{told_notes}
 use Rattle.motion_kernel.specs.declared.memberships.Membership.{Membership}
 use Rattle.motion_kernel.proofs.members.Places.{membership_is}
 use Rattle.motion_kernel.proofs.Sizes.{told_length}
@@ -129,10 +127,6 @@ group_event_size m j c = record {
   instances = told_length c.notes m.instances;
 }
 
--- the group of an axis is another than the one of a number
-abbrev placed_at : Machine → ℕ → group_cores.Core → PlacedGroup
-placed_at m j c = group_at (with_group_core m j c) j
-
 -- a machine is kept after an event of an axis
 pub axis_event_kept : (s : Setup) (m : Machine) (n : ℕ) (c : cores.Core) → IsMachineKept s m → n < length m.axes →
     axis.IsCoreKept c → c.axis.limits ≡ limits_of s n → IsPlaced (membership_of s n) m c → IsMachineKept s (with_axis_core m n c)
@@ -229,6 +223,3 @@ instances_kept s m is h e = record {
 
 pub instance_kept : (s : Setup) (m : Machine) (k : ℕ) (i : InstanceState) → IsMachineKept s m → IsMachineKept s (with_instance m k i)
 instance_kept s m k i h = instances_kept s m (slice_set m.instances k i) h (length-set m.instances k i)
-
-pub told_kept : (s : Setup) (m : Machine) (ns : List Note) → IsMachineKept s m → IsMachineKept s (record m { instances = told_notes ns m.instances })
-told_kept s m ns h = instances_kept s m (told_notes ns m.instances) h (told_length ns m.instances)

@@ -21,7 +21,7 @@ use Rattle.motion_kernel.proofs.kept.GroupCommands.{CommandLaws, commanded_at, a
 
 -- where a refused command, or one that waits or is done, leads no axes
 refused_led : (s : Setup) (j : ℕ) (k : BlockKind) (r : Refusal) (m : Machine) → members_led s j k (Err r) m ≡ m
-refused_led s j kind.Power r m = refl
+refused_led s j kind.GroupDisable r m = refl
 refused_led s j _ r m = refl
 
 waiting_led : (s : Setup) (j : ℕ) (k : BlockKind) (m : Machine) → (k ≡ kind.GroupDisable → ⊥) → members_led s j k (Ok false) m ≡ m

@@ -28,7 +28,7 @@ use Rattle.motion_kernel.proofs.kept.Ready.{few_members, limits_shown, may_look}
 
 -- a command that becomes active leaves the group where its axes stand within their limits
 begun_within : (k : BlockKind) → is_within (next_of (event_of k)) ≡ true
-begun_within kind.Power = refl
+begun_within kind.GroupStop = refl
 begun_within _ = refl
 
 joined_within : (waits at_once : Bool) (x y z : group_cores.Core) → (not waits && at_once) ≡ true → is_within y.group.state ≡ true →

@@ -1,10 +1,14 @@
 -- A command that a call makes is made of its inputs.
 -- for: machines_stay_kept, call, cycle and others
-use Rattle.std.specs.Prelude.{◌≡◌, refl, ℕ, ◌<◌, pos, true, false, Some, [], length, slice_get, slice_index_or}
+use Rattle.std.specs.Prelude.{◌≡◌, refl, ℕ, ◌<◌, pos, Bool, true, false, not, ◌&&◌, ◌||◌, Some, [], length, slice_get, slice_index_or}
 use Rattle.std.proofs.Common.{arith, ap, sym, ◌∙◌}
 use Rattle.axis_core.specs.Demands as axis
-use Rattle.axis_core.specs.Demands.{asked_target, is_axis_command}
+use Rattle.axis_core.specs.Demands.{is_axis_command}
 use Rattle.axis_core.specs.Kinds as axis_kinds
+use Rattle.axis_core.specs.Profiles.{profile_of}
+use Rattle.axis_core.specs.declared.profile.Goal.{Goal}
+use Rattle.axis_core.specs.declared.profile.Goal.TheVariants.{Given, Origin}
+use Rattle.plc_types.proofs.EveryKind.{every-kind-that}
 use Rattle.plc_types.specs.Kinds.{acts_on_group}
 use Rattle.plc_types.specs.declared.kind.BlockKind.{BlockKind}
 use Rattle.plc_types.specs.declared.kind.BlockKind.TheVariants as kind
@@ -20,37 +24,26 @@ use Rattle.motion_history.specs.Members.{members_of}
 use Rattle.motion_history.specs.Setup.{Setup}
 use Rattle.motion_history.specs.declared.config.BlockDef.{BlockDef}
 use Rattle.motion_history.specs.declared.config.GroupDef.{GroupDef}
-use Rattle.motion_kernel.specs.calls.Asking.{target_of, wanted_of}
+use Rattle.motion_kernel.specs.calls.Asking.{target_in, wanted_of}
 use Rattle.motion_kernel.specs.kept.Machine.{AreWhole}
 use Rattle.motion_kernel.specs.members.Members.{members_at}
 use Rattle.motion_kernel.proofs.Lists.{get_is}
 use Rattle.motion_kernel.proofs.members.Members.{each_of}
 
 axis_kind : (k : BlockKind) → acts_on_group k ≡ false → is_power k ≡ false → is_axis_command k ≡ true
-axis_kind kind.Power g p = absurd (cc)
-axis_kind kind.GroupEnable g p = absurd (cc)
-axis_kind kind.GroupDisable g p = absurd (cc)
-axis_kind kind.GroupReset g p = absurd (cc)
-axis_kind kind.GroupStop g p = absurd (cc)
-axis_kind kind.GroupHalt g p = absurd (cc)
-axis_kind kind.MoveLinearAbsolute g p = absurd (cc)
-axis_kind kind.MoveCircularAbsolute g p = absurd (cc)
-axis_kind _ g p = refl
+axis_kind k g p = every-kind-that (λ x. not (acts_on_group x || is_power x)) is_axis_command refl k (rw (g, p) refl)
 
-asked : (k : BlockKind) (w : Wanted) (i : Inputs) → w.targets ≡ i.positions → target_of k i ≡ asked_target k w
-asked kind.Home w i e = ap (λ ts. Some (slice_index_or ts 0 (pos 0))) (sym e)
-asked kind.MoveAbsolute w i e = ap (λ ts. Some (slice_index_or ts 0 (pos 0))) (sym e)
+asked : (g : Goal) (w : Wanted) (i : Inputs) → w.targets ≡ i.positions → target_in g i ≡ axis.target_in g w
+asked Given w i e = ap (λ ts. Some (slice_index_or ts 0 (pos 0))) (sym e)
+asked Origin w i e = ap (λ ts. Some (slice_index_or ts 0 (pos 0))) (sym e)
 asked _ w i e = refl
 
-axis_mode : (k : BlockKind) → is_axis_command k ≡ true → axis_kinds.may_wait k ≡ false → takes k Mode ≡ false
-axis_mode kind.Power a h = refl
-axis_mode kind.Reset a h = refl
-axis_mode kind.Home a h = refl
-axis_mode kind.Stop a h = refl
-axis_mode kind.Halt a h = refl
-axis_mode kind.GearOut a h = refl
-axis_mode kind.CamOut a h = refl
-axis_mode _ a h = absurd (cc)
+axis_mode : (k : BlockKind) → acts_on_group k ≡ false → axis_kinds.may_wait k ≡ false → takes k Mode ≡ false
+axis_mode k g h = by (acts_on_group k) (takes k Mode) g h
+  where
+    by : (b c : Bool) → b ≡ false → (not b && c) ≡ false → c ≡ false
+    by false c g h = h
+    by true c g h = absurd (cc)
 
 group_mode : (k : BlockKind) → acts_on_group k ≡ true → group_kinds.may_wait k ≡ false → takes k Mode ≡ false
 group_mode kind.GroupEnable a h = refl
@@ -70,8 +63,8 @@ axis_made s k b i at call axis other =
     record {
       kind = is;
       position = position.size;
-      target = asked b.kind (wanted_of k b.kind i) i refl;
-      mode = λ w. made.mode (axis_mode b.kind is w);
+      target = asked (profile_of b.kind).goal (wanted_of k b.kind i) i refl;
+      mode = λ w. made.mode (axis_mode b.kind axis w);
     }
 
 pub count_is : (s : Setup) (j : ℕ) → AreWhole s → j < length s.groups → length (members_at s j) ≡ count_in (slice_get s.groups j)

@@ -18,7 +18,7 @@ use Rattle.motion_kernel.specs.calls.Calls.{leaves_path, with_execute, without_o
 use Rattle.motion_kernel.specs.Machine.{Machine, axis_at, group_at}
 use Rattle.motion_kernel.specs.kept.Machine.{AreWhole, IsMachineKept}
 use Rattle.motion_kernel.specs.kept.Ready.{MayAskAxis, MayAskGroup, MayCall}
-use Rattle.motion_kernel.proofs.kept.Calls.{CallLaws, axis_object, command_laws, group_object, object_of}
+use Rattle.motion_kernel.proofs.kept.Calls.{CallLaws, axis_object, command_laws, group_object, object_of, power_acts}
 use Rattle.motion_kernel.proofs.kept.Events.{instance_kept}
 use Rattle.motion_kernel.proofs.kept.AxesLeave.{disabled_rests}
 use Rattle.motion_kernel.proofs.kept.MadeCommands.{axis_made, group_made}
@@ -35,10 +35,6 @@ leaving kind.GroupDisable (Ok false) e = (refl, refl)
 leaving kind.GroupDisable (Ok true) e = absurd (cc)
 leaving kind.GroupDisable (Err r) e = absurd (cc)
 leaving _ r e = absurd (cc)
-
-power_acts : (k : BlockKind) → is_power k ≡ true → acts_on_group k ≡ false
-power_acts kind.Power e = refl
-power_acts _ e = absurd (cc)
 
 may_axis : CallLaws → (s : Setup) (k : ℕ) (b : BlockDef) (i : Inputs) (m : Machine) → slice_get s.blocks k ≡ Some b → IsCall s k i →
     acts_on_group b.kind ≡ false → is_power b.kind ≡ false → IsMachineKept s m → MayAskAxis k b.object b.kind i m

@@ -6,7 +6,11 @@ use Rattle.std.proofs.lemmas.Bool.{cases_Bool, cases_eq, eq-eqb, eqb-false, eqb-
 use Rattle.std.proofs.lemmas.List.{get_or-set_other}
 use Rattle.axis_core.specs.Calls as axis_calls
 use Rattle.axis_core.specs.Cores.{Core}
-use Rattle.axis_core.specs.Owners.{owner_brought, owner_brought_by}
+use Rattle.axis_core.specs.Owners.{owner_brought, owner_brought_by, owner_brought_in}
+use Rattle.axis_core.specs.Kinds.{is_leaving}
+use Rattle.axis_core.specs.Profiles.{profile_of}
+use Rattle.axis_core.specs.declared.profile.Entry.{Entry}
+use Rattle.axis_core.specs.declared.profile.Entry.TheVariants.{Awaits, Joins, Leaves}
 use Rattle.axis_core.specs.declared.reason.Reason as axis_reason
 use Rattle.buffer_modes.proofs.Owners.{nobody}
 use Rattle.buffer_modes.specs.Owners.{owner_count, one_of, ends_given}
@@ -112,15 +116,26 @@ brings_one : (kind : BlockKind) (active : Bool) (i : InstanceState) (k : ℕ) (o
     commands_shown (answered_instance kind (Ok active) i).progress ≡ owner_count k o
 brings_one kind active i k o e d = answered_one kind active i d ∙ sym (owner_counts k o e)
 
+-- a block of an axis is Done in its call where it ends a gear or a cam
+done_is : (x : BlockKind) → acts_on_group x ≡ false →
+    is_done_at_once x ≡ is_leaving (profile_of x).entry
+done_is kind.GroupEnable a = absurd (cc)
+done_is kind.GroupDisable a = absurd (cc)
+done_is _ a = refl
+
 brings_axis : (kind : BlockKind) (i : InstanceState) (k : ℕ) (w : Wanted) (c : Core) →
     w.owner ≡ Some k → acts_on_group kind ≡ false →
     commands_shown (answered_instance kind (Ok (axis_calls.is_active_by kind w c)) i).progress
     ≡ owner_count k (owner_brought_by kind w)
-brings_axis kind.GearOut i k w c e a = sym (nobody k)
-brings_axis kind.CamOut i k w c e a = sym (nobody k)
-brings_axis kind.GroupEnable i k w c e a = absurd (cc)
-brings_axis kind.GroupDisable i k w c e a = absurd (cc)
-brings_axis x i k w c e a = brings_one x (axis_calls.is_active_by x w c) i k w.owner e refl
+brings_axis x i k w c e a = by (profile_of x).entry refl
+  where
+    by : (y : Entry) → (profile_of x).entry ≡ y →
+        commands_shown (answered_instance x (Ok (axis_calls.is_active_in y w c)) i).progress
+        ≡ owner_count k (owner_brought_in y w)
+    by Leaves is = rw (done_is x a ∙ ap is_leaving is) (sym (nobody k))
+    by Joins is =
+        brings_one x (axis_calls.is_active_in Joins w c) i k w.owner e (done_is x a ∙ ap is_leaving is)
+    by Awaits is = brings_one x false i k w.owner e (done_is x a ∙ ap is_leaving is)
 
 pub answer_shows : (o : Option axis_reason.Reason) (i : InstanceState) (k : ℕ) (w : Wanted)
     (c : Core) → w.owner ≡ Some k → acts_on_group w.kind ≡ false →

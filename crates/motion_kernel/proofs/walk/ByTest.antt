@@ -1,5 +1,5 @@
 -- What holds by a test on which two things depend.
--- for: owners_have_blocks
+-- for: owners_have_blocks, machines_stay_kept, call and others
 use Rattle.std.specs.Prelude.{◌≡◌, refl, Bool, true, false, if◌then◌else◌}
 
 -- the same test decides both

@@ -14,6 +14,7 @@ use Rattle.plc_types.specs.declared.kind.BlockKind.{BlockKind}
 use Rattle.plc_types.specs.declared.kind.BlockKind.TheVariants as kind
 use Rattle.fb_outputs.specs.InstanceState.{InstanceState}
 use Rattle.fb_outputs.specs.Steps as instance
+use Rattle.fb_outputs.specs.Steps.{is_power}
 use Rattle.plc_types.specs.declared.inputs.Inputs.{Inputs}
 use Rattle.fb_outputs.specs.declared.instance.Edge.{Edge}
 use Rattle.fb_outputs.specs.declared.instance.Edge.TheVariants as edge
@@ -163,8 +164,8 @@ after_edge s edge.Low k b i m = m
 
 -- what the call asks for: a Power at every call, others at a rising edge
 abbrev pub after_asking : Setup → BlockKind → Edge → ℕ → BlockDef → Inputs → Machine → Machine
-after_asking s kind.Power e k b i m = after_power s b.object i.execute m
-after_asking s kind e k b i m = after_edge s e k b i m
+after_asking s kind e k b i m =
+    if is_power kind then after_power s b.object i.execute m else after_edge s e k b i m
 
 -- the machine whose instance took a call's Execute
 abbrev pub with_execute : ℕ → Inputs → Machine → Machine

@@ -2,8 +2,7 @@
 use Rattle.std.specs.Prelude.{ℕ, Bool, if◌then◌else◌, Option, Some, None}
 use Rattle.plc_types.specs.Kinds.{acts_on_group}
 use Rattle.plc_types.specs.declared.kind.BlockKind.{BlockKind}
-use Rattle.plc_types.specs.declared.kind.BlockKind.TheVariants as kind
-use Rattle.fb_outputs.specs.Steps.{edge_of}
+use Rattle.fb_outputs.specs.Steps.{edge_of, is_power}
 use Rattle.plc_types.specs.declared.inputs.Inputs.{Inputs}
 use Rattle.fb_outputs.specs.declared.instance.Edge.{Edge}
 use Rattle.fb_outputs.specs.declared.instance.Edge.TheVariants as edge
@@ -30,8 +29,8 @@ request_by_edge e b = for_nothing
 
 -- but a Power asks for power at every call
 abbrev pub request_by_kind : BlockKind → Edge → BlockDef → Bool → Request
-request_by_kind kind.Power e b enable = for_power b.object enable
-request_by_kind kind e b enable = request_by_edge e b
+request_by_kind kind e b enable =
+    if is_power kind then for_power b.object enable else request_by_edge e b
 
 -- a block that is not there asks for nothing
 abbrev pub request_of : Option BlockDef → ℕ → Inputs → Machine → Request

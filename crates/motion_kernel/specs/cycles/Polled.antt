@@ -1,17 +1,14 @@
 -- Which instances find something at a cycle's end (MC_Power, MC_Stop and MC_GroupStop; PLCopen
 -- Motion Control Part 1 and Part 4).
-use Rattle.std.specs.Prelude.{ℕ, zero, suc, Bool, true, false, if◌then◌else◌, Option, Some, None, List, [], ◌∷◌, ◌++◌, length, slice_get}
+use Rattle.std.specs.Prelude.{ℕ, zero, suc, Bool, ◌||◌, if◌then◌else◌, Option, Some, None, List, [], ◌∷◌, ◌++◌, length, slice_get}
 use Rattle.plc_types.specs.declared.kind.BlockKind.{BlockKind}
-use Rattle.plc_types.specs.declared.kind.BlockKind.TheVariants as kind
+use Rattle.fb_outputs.specs.Steps.{is_power, is_stop}
 use Rattle.motion_history.specs.Setup.{Setup}
 use Rattle.motion_history.specs.declared.config.BlockDef.{BlockDef}
 
 -- whether an instance of a block of this kind does
 abbrev pub finds : BlockKind → Bool
-finds kind.Power = true
-finds kind.Stop = true
-finds kind.GroupStop = true
-finds kind = false
+finds kind = is_power kind || is_stop kind
 
 -- some instances, and after them this one where its block is of a kind that does
 abbrev pub with_polled_of : BlockKind → ℕ → List ℕ → List ℕ

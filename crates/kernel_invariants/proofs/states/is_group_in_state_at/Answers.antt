@@ -1,5 +1,4 @@
 -- The group is the one that was found.
-use Rattle.std.proofs.Common.{ap}
 use Rattle.motion_kernel.proofs.Lists.{get_is}
 use Rattle.motion_kernel.specs.Machine.{no_group}
 use Rattle.motion_kernel.specs.Seen.{placed}

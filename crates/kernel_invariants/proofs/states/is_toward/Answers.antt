@@ -1,5 +1,4 @@
 -- Both lead to the same positions.
-use Rattle.std.proofs.Common.{◌≡◌, ap, sym, ◌∙◌}
 use Rattle.kernel_invariants.proofs.Toward.{toward_by}
 use Rattle.kernel_invariants.proofs.states.is_toward.Goals as goal
 

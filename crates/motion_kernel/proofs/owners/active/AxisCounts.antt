@@ -3,8 +3,11 @@
 use Rattle.std.specs.Prelude.{◌≡◌, refl, ℕ, Bool, true, false, ◌||◌, is_none, if◌then◌else◌, Option, Some, None, Ok, List, []}
 use Rattle.std.proofs.Common.{ap, sym, ◌∙◌}
 use Rattle.axis_core.specs.Calls as axis_calls
-use Rattle.axis_core.specs.Calls.{core_after_admission, core_after_command, core_after_joining, core_after_leaving, core_after_verdict, core_with_queued, queue_in}
+use Rattle.axis_core.specs.Calls.{core_after_admission, core_after_command, core_after_joining, core_after_leaving, core_after_verdict, core_entered_in, core_with_queued, queue_in}
 use Rattle.axis_core.specs.Cores.{Core, axis_under, axis_under_by}
+use Rattle.axis_core.specs.Profiles.{profile_of}
+use Rattle.axis_core.specs.declared.profile.Entry.{Entry}
+use Rattle.axis_core.specs.declared.profile.Entry.TheVariants.{Awaits, Joins, Leaves}
 use Rattle.axis_core.specs.Refusals as axis_refusals
 use Rattle.axis_core.specs.Refusals.{Asked}
 use Rattle.axis_core.specs.blocks.Moves.{known_target_of, with_target}
@@ -13,7 +16,6 @@ use Rattle.buffer_modes.specs.Owners.{owner_count, owner_by}
 use Rattle.buffer_modes.specs.Queue.{admitted, behind, is_aborting, is_active_at_once}
 use Rattle.command_pool.specs.Waiting.{last_of}
 use Rattle.plc_types.specs.declared.kind.BlockKind.{BlockKind}
-use Rattle.plc_types.specs.declared.kind.BlockKind.TheVariants as kind
 use Rattle.command_pool.specs.declared.wanted.Wanted.{Wanted}
 use Rattle.fb_outputs.specs.InstanceState.{InstanceState}
 use Rattle.motion_kernel.specs.calls.Asking.{is_done_at_once}
@@ -72,16 +74,15 @@ own_admitted : (k : ℕ) (x : BlockKind) (w v : Wanted) (c : Core) (i : Instance
     v.mode ≡ w.mode → v.owner ≡ Some k → active_of k c ≡ 0 →
     active_of k (core_after_admission x v c) ≡ active_shown
     (answered_instance x (Ok (axis_calls.is_active_by x w c)) i).progress
-own_admitted k kind.Reset w v c i m e n = n ∙ sym (active_by kind.Reset false i)
-own_admitted k kind.GearOut w v c i m e n = left_active k v c
-own_admitted k kind.CamOut w v c i m e n = left_active k v c
-own_admitted k kind.Power w v c i m e n =
-    joined_active k v c (is_active_at_once (queue_in c) w)
-    (ap (λ y. is_aborting y || is_none c.axis.active) m) e n ∙ sym (active_by kind.Power _ i)
-own_admitted k x w v c i m e n =
-    joined_active k v c (is_active_at_once (queue_in c) w)
-    (ap (λ y. is_aborting y || is_none c.axis.active) m) e n
-    ∙ sym (active_by x (is_active_at_once (queue_in c) w) i)
+own_admitted k x w v c i m e n = by (profile_of x).entry
+  where
+    by : (y : Entry) → active_of k (core_entered_in y v c) ≡ active_shown
+        (answered_instance x (Ok (axis_calls.is_active_in y w c)) i).progress
+    by Awaits = n ∙ sym (active_by x false i)
+    by Leaves = left_active k v c ∙ sym (active_by x false i)
+    by Joins = joined_active k v c (is_active_at_once (queue_in c) w)
+        (ap (λ y. is_aborting y || is_none c.axis.active) m) e n
+        ∙ sym (active_by x (is_active_at_once (queue_in c) w) i)
 
 pub own_active : (k : ℕ) (q : Asked) (c : Core) (i : InstanceState) → q.wanted.owner ≡ Some k →
     active_of k c ≡ 0 →

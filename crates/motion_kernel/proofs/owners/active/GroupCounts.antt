@@ -51,7 +51,6 @@ group_own_admitted k kind.MoveLinearAbsolute members w c i e n =
     line_active k members w c (group_calls.waits_for_rest w c.path)
     (is_active_at_once (group_calls.queue_in c) w) refl refl e n
     ∙ sym (active_by kind.MoveLinearAbsolute (group_calls.is_line_active w c) i)
-group_own_admitted k kind.Power members w c i e n = n ∙ sym (active_by kind.Power false i)
 group_own_admitted k x members w c i e n = n ∙ sym (active_by x false i)
 
 pub group_own_active : (k : ℕ) (w : Wanted) (jerk : ℤ) (members : GroupLook) (c : groups.Core)

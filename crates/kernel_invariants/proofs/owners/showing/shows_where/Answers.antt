@@ -2,7 +2,7 @@
 use Rattle.std.proofs.Common.{ap, sym, ◌∙◌}
 use Rattle.kernel_invariants.specs.Owned.{object_by}
 use Rattle.motion_kernel.specs.owners.Objects.{a_group, an_axis}
-use Rattle.kernel_invariants.proofs.Showing.{power_shows, shows_by_block}
+use Rattle.kernel_invariants.proofs.Showing.{shows_by_block}
 use Rattle.kernel_invariants.proofs.owners.showing.shows_where.Goals as goal
 
 pub returns-in-Axis : goal.returns-in-Axis

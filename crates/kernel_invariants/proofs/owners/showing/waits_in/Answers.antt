@@ -1,5 +1,5 @@
 -- One command more is counted.
-use Rattle.std.proofs.Common.{◌≡◌, ◌<◌, ◌∙◌, ap, arith, length, refl, sym}
+use Rattle.std.proofs.Common.{◌<◌, ◌∙◌, ap, arith, length, refl}
 use Rattle.std.proofs.lemmas.List.{take_all}
 use Rattle.buffer_modes.specs.Owners.{owner_by, owner_count, waits_of}
 use Rattle.command_pool.specs.Layout.{unused}
