@@ -16,7 +16,9 @@ ghost use Rattle.motion_laws.specs.Orders.{AreOrders, IsHeldByStop, IsOrder, IsQ
 ghost use Rattle.segment_check.specs.Flaws.{HaveOrders};
 ghost use Rattle.segment_check.specs.Queued.{AreQueued, Follows, HasOrders};
 
-use axis_core::{Axis, BlockKind, BufferMode, Follow, Goal, Wanted, may_wait, profile_for};
+use axis_core::{
+    Axis, BlockKind, BufferMode, Follow, Goal, Wanted, asked_target, may_wait, profile_for,
+};
 use motion_history::Config;
 use motion_kernel::Start;
 
@@ -67,16 +69,6 @@ fn is_aborting(mode: BufferMode) -> bool
     ensures { result ≡ orders.is_aborting mode }
 {
     matches!(mode, BufferMode::Aborting)
-}
-
-// The target that a call gives a command, but one that is relative.
-fn asked_target(wanted: &Wanted) -> Option<i64>
-    ensures { result ≡ demands.asked_target wanted.now.kind wanted.now }
-{
-    match wanted.kind {
-        BlockKind::MoveAbsolute | BlockKind::Home => Some(wanted.targets[0]),
-        _ => None,
-    }
 }
 
 // Whether a kind moves so far from another place.
