@@ -250,7 +250,7 @@ uint32_t motion_open(motion *m, const uint8_t *text, size_t len, motion_refusal 
  * TOML, in units of its own with nine decimals, and a program, whose tasks and blocks the machine gets.
  * Other lines of the program are read and not kept: the calls are yours. Here a position or a rate is a
  * number of internal units, of which one of the configuration's units has 10^9, and rates count a cycle;
- * traces are of version 2. motion_setup, below, writes the program by calls.
+ * traces are of the configuration's version, 2 or 3. motion_setup, below, writes the program by calls.
  *   MOTION_OK        the machine is open, at rest, and its history empty
  *   MOTION_OPEN      exactly where the handle is open; it stays so
  *   MOTION_REFUSED   one of the texts breaks a rule, the configuration a C and the program a P: `why`

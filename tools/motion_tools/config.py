@@ -49,6 +49,7 @@ class Config(NamedTuple):
     axes: list[AxisConfig]
     groups: dict[str, list[str]]
     tables: list[list[tuple[Fraction, Fraction]]]
+    version: int = 2
 
     def scales(self) -> dict[str, Scale]:
         """How much an internal unit of each axis is."""
@@ -85,7 +86,7 @@ def config_of(path: str, text: str) -> Config:
         tables = [[point_of(point) for point in table["points"]]
                   for table in data.get("table", [])]
         return Config(path, int(data["cycle_us"]), int(data["cycles"]), int(data["entries"]),
-                      axes, groups, tables)
+                      axes, groups, tables, int(data.get("version", 2)))
     except tomllib.TOMLDecodeError as error:
         raise ConfigError(f"{path}: it isn't TOML: {error}") from None
     except (KeyError, TypeError, ValueError, AttributeError) as error:

@@ -1,6 +1,6 @@
 -- What the digits of a number are read as, test by test.
 -- for: read_units, write_units
-use Rattle.std.proofs.Common.{◌≡◌, ℕ, ◌<◌, ◌≤◌, ◌^◌, Bool, true, false, List, length, ◌&&◌, ◌+◌, ◌*◌, ◌-◌, Some, None, [], ◌∷◌, ◌≢◌, ap, sym, Result, Ok, Err, inl, inr, refl, arith}
+use Rattle.std.proofs.Common.{◌≡◌, ℕ, ◌<◌, ◌≤◌, ◌^◌, true, false, List, length, ◌+◌, ◌*◌, ◌-◌, Some, None, [], ◌∷◌, ◌≢◌, ap, sym, Result, Ok, Err, inl, inr, refl, arith}
 use Rattle.std.proofs.lemmas.Str.Parse.{parse_digits}
 use Rattle.std.specs.Str.Parse.{ParsesUnsigned, digits_value}
 use Rattle.std.proofs.lemmas.Bool.{ltb-true, lt-ltb, le-ltb, ne_eqb, cases_lt, and_parts}

@@ -14,3 +14,8 @@ per_cycle_of value cycle_us = signed_as value (unsigned_abs value * cycle_us / 1
 abbrev pub per_cycle_squared_of : ℤ → ℕ → ℤ
 per_cycle_squared_of value cycle_us =
     signed_as value (unsigned_abs value * (cycle_us * cycle_us) / 10 ^ 12)
+
+-- what a value per second cubed makes in a cycle, per cycle squared; this project's profile
+abbrev pub per_cycle_cubed_of : ℤ → ℕ → ℤ
+per_cycle_cubed_of value cycle_us =
+    signed_as value (unsigned_abs value * (cycle_us * cycle_us * cycle_us) / 10 ^ 18)

@@ -10,7 +10,7 @@ mod text;
 mod writing;
 
 pub use laws::{reads_what_is_spelled, reads_what_is_written, tells_the_first_fault};
-pub use rates::{per_cycle, per_cycle2};
+pub use rates::{per_cycle, per_cycle2, per_cycle3};
 pub use reading::{UnitFault, read_units};
 pub use text::Text40;
 pub use writing::write_units;

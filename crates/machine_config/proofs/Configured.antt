@@ -1,26 +1,30 @@
 -- A text's reading is the machine that it configures.
 -- for: read_config
-use Rattle.std.proofs.Common.{◌≡◌, ℕ, ◌+◌, Option, Some, None, Result, Ok, Err, List, [], ◌∷◌, refl, sym, ap, subst, inl, inr}
+use Rattle.std.proofs.Common.{◌≡◌, ℕ, ◌+◌, pos, Option, Some, None, Result, Ok, Err, List, [], ◌∷◌, refl, sym, ap, subst, inl, inr}
 use Rattle.std.specs.Prelude.{IfOk}
 use Rattle.std.specs.Option.{option_map_or}
 use Rattle.std.specs.Str.{IsUtf8, is_utf8}
+use Rattle.std.specs.Ordering.{int_eq}
 use Rattle.std.proofs.lemmas.Bool.{cases_Bool}
+use Rattle.std.proofs.lemmas.Bool.Decides.{Decides-int_eq}
 use Rattle.std.proofs.lemmas.Str.{IsUtf8-from_is_utf8, is_utf8-from_IsUtf8}
 use Rattle.line_text.specs.Reading.{◌>>=◌}
 use Rattle.line_text.specs.Rules.{broken_unless, in_range}
+use Rattle.motion_history.specs.declared.refused.TraceVersion.{TraceVersion}
+use Rattle.motion_history.specs.declared.refused.TraceVersion.TheVariants as version
 use Rattle.motion_history.specs.declared.refused.TextFault.{TextFault}
 use Rattle.motion_history.specs.declared.refused.TextRefused.{TextRefused}
-use Rattle.toml.specs.Data.{Members}
+use Rattle.toml.specs.Data.{Data, Members}
 use Rattle.toml.specs.Parse.{parse_document}
-use Rattle.machine_config.specs.Configured.{AddsItem, Configures, GivesTop, ItemsLead}
-use Rattle.machine_config.specs.Keys.{has_keys, top_keys}
+use Rattle.machine_config.specs.Configured.{AddsItem, Configures, GivesTop, GivesVersion, ItemsLead}
+use Rattle.machine_config.specs.Keys.{has_keys, top_keys, value_at}
 use Rattle.machine_config.specs.Marks.{crowded_line}
 use Rattle.machine_config.specs.Reading.{Reads, at_place, document_of, document_reading, item_meaning, items_meaning, items_of, machine_of, marks_reading, refused_at, top_reading}
-use Rattle.machine_config.specs.Tops.{are_counted, bare_setup, top_meaning}
-use Rattle.machine_config.specs.Values.{integer_at}
+use Rattle.machine_config.specs.Tops.{are_counted, bare_setup, top_meaning, version_in, version_of}
+use Rattle.machine_config.specs.Values.{integer_at, integer_in}
 use Rattle.machine_config.specs.declared.item.ItemKind.{ItemKind}
 use Rattle.machine_config.specs.declared.item.ItemKind.TheVariants as kind
-use Rattle.machine_config.specs.declared.key.Key.TheVariants.{Cycles, CycleUs, Entries}
+use Rattle.machine_config.specs.declared.key.Key.TheVariants.{Cycles, CycleUs, Entries, Version}
 use Rattle.machine_config.specs.declared.machine.Machine.{Machine}
 use Rattle.machine_config.specs.RuleNumbers.{crowded, no_toml, out_of_range, wrong_count, wrong_key}
 use Rattle.line_text.proofs.Results.{bind_ok, found, holds, ok_is}
@@ -29,8 +33,8 @@ use Rattle.machine_config.proofs.Items.{axis-read, axis-told, group-read, group-
 use Rattle.machine_config.proofs.Told.{AreSpelled, range-read, range-told}
 
 -- the machine before its items
-abbrev pub bare : ℕ → ℕ → ℕ → Machine
-bare cycle_us cycles entries = record { config = bare_setup cycles entries; cycle_us = cycle_us; drives = [] }
+abbrev pub bare : TraceVersion → ℕ → ℕ → ℕ → Machine
+bare version cycle_us cycles entries = record { config = bare_setup cycles entries; version = version; cycle_us = cycle_us; drives = [] }
 
 -- a place that breaks no rule
 place-ok : {A : Type 0} (r : Result A ℕ) (place : ℕ) (x : A) → at_place place r ≡ Ok x → r ≡ Ok x
@@ -66,17 +70,29 @@ items-read spelled told i m n (x ∷ xs) (u, one, more) =
 
 -- what a top gives that is read as this machine
 record GivesBare (top : Members) (m : Machine) : Type 0 where
+  version : TraceVersion
   cycle_us : ℕ
   cycles : ℕ
   entries : ℕ
-  gives : GivesTop top cycle_us cycles entries
-  is : m ≡ bare cycle_us cycles entries
+  gives : GivesTop top version cycle_us cycles entries
+  is : m ≡ bare version cycle_us cycles entries
+
+version-told : (o : Option Data) (v : TraceVersion) → version_in o ≡ Ok v → GivesVersion o v
+version-told None v h = sym (ok_is (Ok version.Two) version.Two v refl h)
+version-told (Some d) v h =
+    let three = bind_ok (broken_unless (int_eq (integer_in (Some d)) (pos 3)) out_of_range) _ v h in
+    ((Decides-int_eq _ (pos 3)).0 (holds _ out_of_range three.0 three.1), sym (ok_is (Ok version.Three) version.Three v refl three.2))
+
+version-read : (o : Option Data) (v : TraceVersion) → GivesVersion o v → version_in o ≡ Ok v
+version-read None v g = ap (λ w. Ok w) (sym g)
+version-read (Some d) v g = rw g.0 (ap (λ w. Ok w) (sym g.1))
 
 top-told : (top : Members) (m : Machine) → top_meaning top ≡ Ok m → GivesBare top m
-unfolding top_meaning
+unfolding top_meaning version_of
 top-told top m h =
     let keys = bind_ok (broken_unless (has_keys top_keys top) wrong_key) _ m h in
-    let cycle_us = bind_ok (in_range 100 100000 out_of_range (integer_at CycleUs top)) _ m keys.2 in
+    let version = bind_ok (version_of top) _ m keys.2 in
+    let cycle_us = bind_ok (in_range 100 100000 out_of_range (integer_at CycleUs top)) _ m version.2 in
     let cycles = bind_ok (in_range 1 200000 out_of_range (integer_at Cycles top)) _ m cycle_us.2 in
     let entries = bind_ok (in_range 1 1000000 out_of_range (integer_at Entries top)) _ m cycles.2 in
     let counted = bind_ok (broken_unless (are_counted top) wrong_count) _ m entries.2 in
@@ -84,11 +100,13 @@ top-told top m h =
     let r = range-told 1 200000 out_of_range (integer_at Cycles top) cycles.0 cycles.1 in
     let e = range-told 1 1000000 out_of_range (integer_at Entries top) entries.0 entries.1 in
     record {
+      version = version.0;
       cycle_us = cycle_us.0;
       cycles = cycles.0;
       entries = entries.0;
       gives = record {
         keys = holds _ wrong_key keys.0 keys.1;
+        dated = version-told (value_at Version top) version.0 version.1;
         cycle = c.is;
         shortest = c.above;
         longest = c.below;
@@ -103,11 +121,12 @@ top-told top m h =
       is = sym (ok_is (Ok _) _ m refl counted.2);
     }
 
-top-read : (top : Members) (cycle_us cycles entries : ℕ) → GivesTop top cycle_us cycles entries → top_meaning top ≡ Ok (bare cycle_us cycles entries)
-unfolding top_meaning
-top-read top cycle_us cycles entries g =
+top-read : (top : Members) (version : TraceVersion) (cycle_us cycles entries : ℕ) → GivesTop top version cycle_us cycles entries → top_meaning top ≡ Ok (bare version cycle_us cycles entries)
+unfolding top_meaning version_of
+top-read top version cycle_us cycles entries g =
     rw (
       g.keys,
+      version-read (value_at Version top) version g.dated,
       range-read 100 100000 out_of_range (integer_at CycleUs top) cycle_us (record { is = g.cycle; above = g.shortest; below = g.longest }),
       range-read 1 200000 out_of_range (integer_at Cycles top) cycles (record { is = g.room; above = g.some_room; below = g.most_room }),
       range-read 1 1000000 out_of_range (integer_at Entries top) entries (record { is = g.entries_room; above = g.some_entries; below = g.most_entries }),
@@ -152,6 +171,7 @@ text-told spelled told text m h =
     let leads = items-told spelled told 0 first.0 m (items_of top.0) first.2 in
     record {
       top = top.0;
+      version = g.version;
       cycle_us = g.cycle_us;
       cycles = g.cycles;
       entries = g.entries;
@@ -165,8 +185,8 @@ text-told spelled told text m h =
 text-read : AreSpelled → AreTold → (text : List ℕ) (m : Machine) → Configures text m → machine_of text ≡ Ok m
 unfolding machine_of
 text-read spelled told text m c =
-    rw (c.few, document-read text c.top c.utf8 c.document, top-read c.top c.cycle_us c.cycles c.entries c.gives)
-    (items-read spelled told 0 (bare c.cycle_us c.cycles c.entries) m (items_of c.top) c.leads)
+    rw (c.few, document-read text c.top c.utf8 c.document, top-read c.top c.version c.cycle_us c.cycles c.entries c.gives)
+    (items-read spelled told 0 (bare c.version c.cycle_us c.cycles c.entries) m (items_of c.top) c.leads)
 
 -- ---- the answers
 

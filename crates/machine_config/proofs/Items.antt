@@ -1,6 +1,6 @@
 -- What items mean is what they add.
 -- for: read_config
-use Rattle.std.proofs.Common.{◌≡◌, ℕ, Some, None, Ok, List, length, refl, sym, ap, subst, ◌∙◌, arith}
+use Rattle.std.proofs.Common.{◌≡◌, ℕ, true, Some, None, Ok, List, length, refl, sym, ap, subst, ◌∙◌, arith}
 use Rattle.std.specs.Prelude.{nat_le, not}
 use Rattle.std.proofs.lemmas.Bool.{le-leb, leb-true}
 use Rattle.cam_table.specs.CamTable.{is_cam_table}
@@ -17,6 +17,7 @@ use Rattle.motion_history.specs.Faults.{axis_fault, group_fault}
 use Rattle.motion_history.specs.Setup.{Setup}
 use Rattle.motion_history.specs.declared.drives.DriveDef.{DriveDef}
 use Rattle.toml.specs.Data.{Members}
+use Rattle.machine_config.specs.Cases.{is_apart}
 use Rattle.machine_config.specs.Axes.{axis_meaning, limits_of, placed_of}
 use Rattle.machine_config.specs.Configured.{AddsAxis, AddsGroup, AddsTable, GivesDrive, GivesLimits, IsPoint, IsStep}
 use Rattle.machine_config.specs.Drives.{drive_of}
@@ -118,7 +119,8 @@ axis-told spelled m t n h =
     let keys = bind_ok (broken_unless (has_keys axis_keys t) wrong_key) _ n h in
     let limits = bind_ok (limits_of m.cycle_us t) _ n keys.2 in
     let placed = bind_ok (placed_of t) _ n limits.2 in
-    let fits = bind_ok (broken_by rule_of (axis_fault m.config (text_at Name t) limits.0 placed.0.inc placed.0.start)) _ n placed.2 in
+    let apart = bind_ok (broken_unless (is_apart m (text_at Name t)) wrong_name) _ n placed.2 in
+    let fits = bind_ok (broken_by rule_of (axis_fault m.config (text_at Name t) limits.0 placed.0.inc placed.0.start)) _ n apart.2 in
     let drive = bind_ok (drive_of t) _ n fits.2 in
     let inc = bind_ok (quantity_at Increment t) _ placed.0 placed.1 in
     let start = bind_ok (quantity_at Start t) _ placed.0 inc.2 in
@@ -136,6 +138,7 @@ axis-told spelled m t n h =
         ready = refl;
       };
       gives_drive = drive-told t drive.0 drive.1;
+      apart = holds _ wrong_name apart.0 apart.1;
       fits = faultless rule_of _ fits.0 fits.1;
       added = sym (ok_is (Ok _) _ n refl drive.2);
     }
@@ -144,6 +147,7 @@ pub axis-read : AreSpelled → (m : Machine) (t : Members) (n : Machine) → Add
 unfolding axis_meaning placed_of quantity_at
 axis-read spelled m t n adds =
     let g = adds.gives_axis in
+    let apart : is_apart m (text_at Name t) ≡ true = subst (λ name. is_apart m name ≡ true) g.name adds.apart in
     let named : axis_fault m.config (text_at Name t) adds.axis.limits adds.axis.inc adds.axis.start ≡ None =
     subst (λ name. axis_fault m.config name adds.axis.limits adds.axis.inc adds.axis.start ≡ None) g.name adds.fits in
     rw (
@@ -151,6 +155,7 @@ axis-read spelled m t n adds =
       limits-read spelled m.cycle_us t adds.axis.limits g.limits,
       quantity-read spelled _ adds.axis.inc g.increment,
       quantity-read spelled _ adds.axis.start g.start,
+      apart,
       named,
       drive-read t adds.drive adds.gives_drive,
       adds.added,
@@ -170,11 +175,13 @@ unfolding group_meaning
 group-told m t n h =
     let keys = bind_ok (broken_unless (has_keys group_keys t) wrong_key) _ n h in
     let axes = bind_ok (each_of (axis_named wrong_name m.config) (texts_at Axes t)) _ n keys.2 in
-    let fits = bind_ok (broken_by rule_of (group_fault m.config (text_at Name t) axes.0)) _ n axes.2 in
+    let apart = bind_ok (broken_unless (is_apart m (text_at Name t)) wrong_name) _ n axes.2 in
+    let fits = bind_ok (broken_by rule_of (group_fault m.config (text_at Name t) axes.0)) _ n apart.2 in
     record {
       axes = axes.0;
       keys = holds _ wrong_key keys.0 keys.1;
       named = each-told (axis_named wrong_name m.config) _ (names-told m.config) (texts_at Axes t) axes.0 axes.1;
+      apart = holds _ wrong_name apart.0 apart.1;
       fits = faultless rule_of _ fits.0 fits.1;
       added = sym (ok_is (Ok _) _ n refl fits.2);
     }
@@ -182,7 +189,7 @@ group-told m t n h =
 pub group-read : (m : Machine) (t : Members) (n : Machine) → AddsGroup m t n → group_meaning m t ≡ Ok n
 unfolding group_meaning
 group-read m t n adds =
-    rw (adds.keys, each-read (axis_named wrong_name m.config) _ (names-read m.config) (texts_at Axes t) adds.axes adds.named, adds.fits, adds.added) refl
+    rw (adds.keys, each-read (axis_named wrong_name m.config) _ (names-read m.config) (texts_at Axes t) adds.axes adds.named, adds.apart, adds.fits, adds.added) refl
 
 -- ---- cam tables
 

@@ -13,8 +13,9 @@ use Rattle.machine_config.specs.declared.machine.Machine.{Machine}
 -- one axis more, and its drive
 pub axis-kept : (m : Machine) (config : Setup) (drives : List DriveDef) (axis : AxisDef) (drive : DriveDef) → IsUnderWay m → IsDrive drive →
     config ≡ record m.config { axes = m.config.axes ++ axis ∷ [] } → drives ≡ m.drives ++ drive ∷ [] →
-    IsUnderWay (record { config = config; cycle_us = m.cycle_us; drives = drives })
+    IsUnderWay (record { config = config; version = m.version; cycle_us = m.cycle_us; drives = drives })
 axis-kept m config drives axis drive k is e f = record {
+  version = k.version;
   shortest = k.shortest;
   longest = k.longest;
   each =
@@ -29,6 +30,7 @@ axis-kept m config drives axis drive k is e f = record {
 pub config-kept : (m : Machine) (config : Setup) → IsUnderWay m → config.axes ≡ m.config.axes → config.tasks ≡ m.config.tasks →
     config.blocks ≡ m.config.blocks → IsUnderWay (record m { config = config })
 config-kept m config k axes tasks blocks = record {
+  version = k.version;
   shortest = k.shortest;
   longest = k.longest;
   each = k.each ∙ sym (ap length axes);

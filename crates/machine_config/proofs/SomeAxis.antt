@@ -70,7 +70,8 @@ axis_given : (top : Members) → has_keys top_keys top ≡ true → is_given top
 unfolding has_keys
 axis_given top h =
     let given = (and_parts (list_all (is_given top) top_keys) (has_known top_keys top) h).0 in
-    let behind = (and_parts (is_given top key.CycleUs) (list_all (is_given top) (key.Cycles ∷ key.Entries ∷ key.Axis ∷ key.Group ∷ key.Table ∷ [])) given).1 in
+    let dated = (and_parts (is_given top key.Version) (list_all (is_given top) (key.CycleUs ∷ key.Cycles ∷ key.Entries ∷ key.Axis ∷ key.Group ∷ key.Table ∷ [])) given).1 in
+    let behind = (and_parts (is_given top key.CycleUs) (list_all (is_given top) (key.Cycles ∷ key.Entries ∷ key.Axis ∷ key.Group ∷ key.Table ∷ [])) dated).1 in
     let further = (and_parts (is_given top key.Cycles) (list_all (is_given top) (key.Entries ∷ key.Axis ∷ key.Group ∷ key.Table ∷ [])) behind).1 in
     let last = (and_parts (is_given top key.Entries) (list_all (is_given top) (key.Axis ∷ key.Group ∷ key.Table ∷ [])) further).1 in
     (and_parts (is_given top key.Axis) (list_all (is_given top) (key.Group ∷ key.Table ∷ [])) last).0

@@ -9,6 +9,7 @@ use Rattle.machine_words.specs.Rules.{broken_by}
 use Rattle.motion_history.specs.Faults.{axis_fault}
 use Rattle.motion_history.specs.declared.drives.DriveDef.{DriveDef}
 use Rattle.toml.specs.Data.{Members}
+use Rattle.machine_config.specs.Cases.{is_apart}
 use Rattle.machine_config.specs.Drives.{drive_of}
 use Rattle.machine_config.specs.Keys.{axis_keys, has_keys}
 use Rattle.machine_config.specs.Quantities.{quantity_at, quantity_or}
@@ -17,7 +18,7 @@ use Rattle.machine_config.specs.Values.{flag_at, text_at}
 use Rattle.machine_config.specs.declared.axis.Placed.{Placed}
 use Rattle.machine_config.specs.declared.key.Key.TheVariants.{Amax, Dmax, Hi, Increment, Lo, Name, Ready, Start, Vmax}
 use Rattle.machine_config.specs.declared.machine.Machine.{Machine}
-use Rattle.machine_config.specs.RuleNumbers.{wrong_key}
+use Rattle.machine_config.specs.RuleNumbers.{wrong_key, wrong_name}
 
 -- the limits of an axis in a cycle of this many microseconds: places in internal units, and from
 -- rates per second and per second squared the steps per cycle and their changes, rounded down. It
@@ -59,6 +60,7 @@ axis_meaning m table = do
   _ ← broken_unless (has_keys axis_keys table) wrong_key
   limits ← limits_of m.cycle_us table
   placed ← placed_of table
+  _ ← broken_unless (is_apart m (text_at Name table)) wrong_name
   _ ← broken_by rule_of (axis_fault m.config (text_at Name table) limits placed.inc placed.start)
   drive ← drive_of table
   Ok (with_axis m (record {

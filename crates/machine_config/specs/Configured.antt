@@ -14,17 +14,20 @@ use Rattle.motion_history.specs.Drives.{IsDrive}
 use Rattle.motion_history.specs.Faults.{axis_fault, group_fault}
 use Rattle.motion_history.specs.Members.{group_of}
 use Rattle.motion_history.specs.declared.drives.DriveDef.{DriveDef}
+use Rattle.motion_history.specs.declared.refused.TraceVersion.{TraceVersion}
+use Rattle.motion_history.specs.declared.refused.TraceVersion.TheVariants as version
 use Rattle.toml.specs.Data.{Data, integer, string, Members}
 use Rattle.toml.specs.Parse.{parse_document}
 use Rattle.machine_config.specs.Axes.{with_axis}
+use Rattle.machine_config.specs.Cases.{is_apart}
 use Rattle.machine_config.specs.Marks.{crowded_line}
 use Rattle.machine_config.specs.Keys.{axis_keys, group_keys, has_keys, table_keys, top_keys, value_at}
 use Rattle.machine_config.specs.Reading.{items_of}
 use Rattle.machine_config.specs.Tops.{are_counted, bare_setup}
-use Rattle.machine_config.specs.Values.{flag_at, integer_at, integers_at, text_at, texts_at}
+use Rattle.machine_config.specs.Values.{flag_at, integer_at, integer_in, integers_at, text_at, texts_at}
 use Rattle.machine_config.specs.declared.item.ItemKind.{ItemKind}
 use Rattle.machine_config.specs.declared.item.ItemKind.TheVariants as kind
-use Rattle.machine_config.specs.declared.key.Key.TheVariants.{Amax, Axes, Cycles, CycleUs, Dmax, Entries, Faults, Hi, Increment, Lag, Lo, Name, Points, Ready, Start, Vmax}
+use Rattle.machine_config.specs.declared.key.Key.TheVariants.{Amax, Axes, Cycles, CycleUs, Dmax, Entries, Faults, Hi, Increment, Lag, Lo, Name, Points, Ready, Start, Version, Vmax}
 use Rattle.machine_config.specs.declared.machine.Machine.{Machine}
 
 -- a text spells this many internal units, at most 10^18
@@ -90,12 +93,14 @@ pub record GivesDrive (table : Members) (drive : DriveDef) : Type 0 where
   pub faults : AreEach IsStep (integers_at Faults table) drive.faults
   pub in_ranges : IsDrive drive
 
--- the table of an axis adds it to a machine, with its drive: the axis is free and in its ranges
+-- the table of an axis adds it to a machine, with its drive: the name of the axis
+-- is apart, and the axis is free and in its ranges
 pub record AddsAxis (m : Machine) (table : Members) (n : Machine) : Type 0 where
   pub axis : AxisDef
   pub drive : DriveDef
   pub gives_axis : GivesAxis m.cycle_us table axis
   pub gives_drive : GivesDrive table drive
+  pub apart : IsTrue (is_apart m axis.name)
   pub fits : axis_fault m.config axis.name axis.limits axis.inc axis.start ≡ None
   pub added : n ≡ with_axis m axis drive
 
@@ -104,6 +109,7 @@ pub record AddsGroup (m : Machine) (table : Members) (n : Machine) : Type 0 wher
   pub axes : List ℕ
   pub keys : IsTrue (has_keys group_keys table)
   pub named : AreEach (λ name axis. axis_at m.config name ≡ Some axis) (texts_at Axes table) axes
+  pub apart : IsTrue (is_apart m (text_at Name table))
   pub fits : group_fault m.config (text_at Name table) axes ≡ None
   pub added : n ≡ record m {
     config = record m.config {
@@ -137,10 +143,17 @@ abbrev pub ItemsLead : Machine → List (ItemKind × Members) → Machine → Ty
 ItemsLead m [] n = n ≡ m
 ItemsLead m (i ∷ more) n = (u : Machine) × AddsItem m i.0 i.1 u × ItemsLead u more n
 
--- the top gives a cycle and the room of the history, in their ranges, and neither too many items
+-- a text is of version 3 where it gives the number 3, and of version 2 where it gives none
+abbrev pub GivesVersion : Option Data → TraceVersion → Type 0
+GivesVersion None v = v ≡ version.Two
+GivesVersion (Some d) v = (integer_in (Some d) ≡ pos 3) × (v ≡ version.Three)
+
+-- the top gives a version, a cycle and the room of the history, in their ranges, and neither too many items
 -- nor too few
-pub record GivesTop (top : Members) (cycle_us cycles entries : ℕ) : Type 0 where
+pub record GivesTop (top : Members) (version : TraceVersion) (cycle_us cycles entries : ℕ) :
+    Type 0 where
   pub keys : IsTrue (has_keys top_keys top)
+  pub dated : GivesVersion (value_at Version top) version
   pub cycle : integer_at CycleUs top ≡ pos cycle_us
   pub shortest : 100 ≤ cycle_us
   pub longest : cycle_us ≤ 100000
@@ -157,13 +170,19 @@ pub record GivesTop (top : Members) (cycle_us cycles entries : ℕ) : Type 0 whe
 -- that its top gives
 pub record Configures (text : List ℕ) (machine : Machine) : Type 0 where
   pub top : Members
+  pub version : TraceVersion
   pub cycle_us : ℕ
   pub cycles : ℕ
   pub entries : ℕ
   pub few : crowded_line text ≡ None
   pub utf8 : IsUtf8 text
   pub document : parse_document text ≡ Some top
-  pub gives : GivesTop top cycle_us cycles entries
+  pub gives : GivesTop top version cycle_us cycles entries
   pub leads : ItemsLead
-      (record { config = bare_setup cycles entries; cycle_us = cycle_us; drives = [] })
+      (record {
+        config = bare_setup cycles entries;
+        version = version;
+        cycle_us = cycle_us;
+        drives = [];
+      })
       (items_of top) machine

@@ -7,6 +7,7 @@ use Rattle.machine_words.specs.Rules.{broken_by}
 use Rattle.motion_history.specs.Faults.{group_fault}
 use Rattle.motion_history.specs.Members.{group_of}
 use Rattle.toml.specs.Data.{Members}
+use Rattle.machine_config.specs.Cases.{is_apart}
 use Rattle.machine_config.specs.Keys.{group_keys, has_keys}
 use Rattle.machine_config.specs.Rules.{rule_of}
 use Rattle.machine_config.specs.Values.{text_at, texts_at}
@@ -20,6 +21,7 @@ unfoldable pub group_meaning : Machine → Members → Result Machine ℕ
 group_meaning m table = do
   _ ← broken_unless (has_keys group_keys table) wrong_key
   axes ← each_of (axis_named wrong_name m.config) (texts_at Axes table)
+  _ ← broken_unless (is_apart m (text_at Name table)) wrong_name
   _ ← broken_by rule_of (group_fault m.config (text_at Name table) axes)
   Ok (record m {
     config = record m.config {

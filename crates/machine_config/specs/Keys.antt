@@ -15,7 +15,7 @@ use Rattle.machine_config.specs.declared.key.Sort.TheVariants as sort
 -- the keys of the text itself
 abbrev pub top_keys : List Key
 top_keys =
-    key.CycleUs ∷ key.Cycles ∷ key.Entries ∷ key.Axis ∷ key.Group ∷ key.Table ∷ []
+    key.Version ∷ key.CycleUs ∷ key.Cycles ∷ key.Entries ∷ key.Axis ∷ key.Group ∷ key.Table ∷ []
 
 -- the keys of an axis
 abbrev pub axis_keys : List Key
@@ -33,6 +33,7 @@ table_keys = key.Points ∷ []
 
 -- the word of each key
 unfoldable pub word_of : Key → List ℕ
+word_of key.Version = codes "version"
 word_of key.CycleUs = codes "cycle_us"
 word_of key.Cycles = codes "cycles"
 word_of key.Entries = codes "entries"
@@ -55,6 +56,7 @@ word_of key.Points = codes "points"
 
 -- what stands under each key: one value, or a list of values
 abbrev pub form_of : Key → Form
+form_of key.Version = form.One sort.Integer
 form_of key.CycleUs = form.One sort.Integer
 form_of key.Cycles = form.One sort.Integer
 form_of key.Entries = form.One sort.Integer
@@ -77,6 +79,7 @@ form_of key.Points = form.List sort.Text
 
 -- whether a key may not be left out
 abbrev pub is_needed : Key → Bool
+is_needed key.Version = false
 is_needed key.Group = false
 is_needed key.Table = false
 is_needed key.Dmax = false

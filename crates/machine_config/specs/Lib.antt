@@ -6,6 +6,7 @@ pub mod Marks
 pub mod Quantities
 pub mod Drives
 pub mod Machines
+pub mod Cases
 pub mod Axes
 pub mod Groups
 pub mod Tables

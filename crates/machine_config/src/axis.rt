@@ -6,11 +6,12 @@ ghost use Rattle.toml.specs.View.{table_view};
 ghost use Rattle.machine_config.specs.Axes as spec;
 ghost use Rattle.machine_config.specs.Machines.{IsUnderWay};
 
+use crate::case::is_apart;
 use crate::drive::drive_of;
 use crate::key::{AXIS_KEYS, Key, has_keys};
 use crate::machine::Machine;
 use crate::quantity::{quantity_at, quantity_or};
-use crate::rule::{WRONG_KEY, refusal_of};
+use crate::rule::{WRONG_KEY, WRONG_NAME, refusal_of};
 use crate::value::{flag_at, text_at};
 use fixed_units::{per_cycle, per_cycle2};
 use line_text::{LineFault, broken_unless};
@@ -37,6 +38,7 @@ pub fn add_axis(alloc: Global, machine: &mut Machine, table: &Table) -> Result<(
     let limits = limits_of(machine.cycle_us, table)?;
     let placed = placed_of(table)?;
     let name = text_at(table, Key::Name).as_bytes();
+    broken_unless(is_apart(machine, name), WRONG_NAME)?;
     let ready = flag_at(table, Key::Ready);
     match machine
         .config

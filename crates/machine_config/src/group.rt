@@ -8,6 +8,7 @@ ghost use Rattle.toml.specs.View.{table_view};
 ghost use Rattle.machine_config.specs.Groups as spec;
 ghost use Rattle.machine_config.specs.Machines.{IsUnderWay};
 
+use crate::case::is_apart;
 use crate::key::{GROUP_KEYS, Key, has_keys};
 use crate::machine::Machine;
 use crate::rule::{WRONG_KEY, WRONG_NAME, refusal_of};
@@ -32,6 +33,7 @@ pub fn add_group(alloc: Global, machine: &mut Machine, table: &Table) -> Result<
         return Err(LineFault::OutOfMemory);
     };
     let axes = axes_named(alloc, &machine.config, names.as_slice())?;
+    broken_unless(is_apart(machine, name), WRONG_NAME)?;
     match machine.config.group(name, axes.as_slice()) {
         Ok(_) => Ok(()),
         Err(fault) => Err(refusal_of(fault)),

@@ -11,6 +11,7 @@ use toml::{Table, Value};
 /// The keys of a configuration.
 #[derive(Clone, Copy)]
 pub enum Key {
+    Version,
     CycleUs,
     Cycles,
     Entries,
@@ -51,7 +52,8 @@ pub enum Form {
 }
 
 /// The keys of the text itself.
-pub const TOP_KEYS: [Key; 6] = [
+pub const TOP_KEYS: [Key; 7] = [
+    Key::Version,
     Key::CycleUs,
     Key::Cycles,
     Key::Entries,
@@ -87,6 +89,7 @@ fn word_of(key: Key) -> &'static str
     ensures { result.now ≡ spec.word_of key }
 {
     match key {
+        Key::Version => "version",
         Key::CycleUs => "cycle_us",
         Key::Cycles => "cycles",
         Key::Entries => "entries",
@@ -114,7 +117,9 @@ fn form_of(key: Key) -> Form
     ensures { result ≡ spec.form_of key }
 {
     match key {
-        Key::CycleUs | Key::Cycles | Key::Entries | Key::Lag => Form::One(Sort::Integer),
+        Key::Version | Key::CycleUs | Key::Cycles | Key::Entries | Key::Lag => {
+            Form::One(Sort::Integer)
+        }
         Key::Axis | Key::Group | Key::Table => Form::List(Sort::Table),
         Key::Name => Form::One(Sort::Text),
         Key::Lo | Key::Hi | Key::Vmax | Key::Amax | Key::Dmax | Key::Increment | Key::Start =>
@@ -131,7 +136,7 @@ fn is_needed(key: Key) -> bool
 {
     !matches!(
         key,
-        Key::Group | Key::Table | Key::Dmax | Key::Ready | Key::Lag | Key::Faults
+        Key::Version | Key::Group | Key::Table | Key::Dmax | Key::Ready | Key::Lag | Key::Faults
     )
 }
 

@@ -4,6 +4,7 @@
 #![tactic(auto)]
 
 mod axis;
+mod case;
 mod drive;
 mod group;
 mod item;

@@ -1,12 +1,12 @@
 // The top of a configuration.
 
-ghost use Rattle.std.specs.Prelude.{◌≡◌, IfOk};
+ghost use Rattle.std.specs.Prelude.{◌≡◌, ◌≢◌, IfOk};
 ghost use Rattle.line_text.specs.Reading.{Gives};
 ghost use Rattle.toml.specs.View.{table_view};
 ghost use Rattle.machine_config.specs.Machines.{IsUnderWay};
 ghost use Rattle.machine_config.specs.Tops as spec;
 
-use crate::key::{Key, TOP_KEYS, has_keys};
+use crate::key::{Key, TOP_KEYS, has_keys, value_at};
 use crate::machine::Machine;
 use crate::rule::{OUT_OF_RANGE, WRONG_COUNT, WRONG_KEY};
 use crate::value::{integer_at, values_at};
@@ -14,6 +14,7 @@ use line_text::{LineFault, broken_unless, in_range};
 use machine_words::{LONGEST_CYCLE, SHORTEST_CYCLE};
 use motion_history::{
     Builder, DriveDefs, MOST_AXES, MOST_CYCLES, MOST_ENTRIES, MOST_GROUPS, MOST_TABLES,
+    TraceVersion,
 };
 use std::alloc::Global;
 use toml::Table;
@@ -25,6 +26,7 @@ pub fn bare_machine(alloc: Global, top: &Table) -> Result<Machine, LineFault>
     ensures kept { IfOk result IsUnderWay }
 {
     broken_unless(has_keys(&TOP_KEYS, top), WRONG_KEY)?;
+    let version = version_of(top)?;
     let cycle_us = in_range(
         SHORTEST_CYCLE,
         LONGEST_CYCLE,
@@ -39,9 +41,25 @@ pub fn bare_machine(alloc: Global, top: &Table) -> Result<Machine, LineFault>
     };
     Ok(Machine {
         config,
+        version,
         cycle_us,
         drives: DriveDefs::new(alloc),
     })
+}
+
+// The version of a configuration.
+#[tactic(auto, unfolding(crate::specs::Tops::version_of, crate::specs::Values::integer_at))]
+fn version_of(top: &Table) -> Result<TraceVersion, LineFault>
+    ensures value { Gives (λ v. v) (spec.version_of (table_view top.now)) result }
+    ensures later { IfOk result (λ v. v ≢ TraceVersion.One) }
+{
+    match value_at(top, Key::Version) {
+        None => Ok(TraceVersion::Two),
+        Some(_) => {
+            broken_unless(integer_at(top, Key::Version) == 3, OUT_OF_RANGE)?;
+            Ok(TraceVersion::Three)
+        }
+    }
 }
 
 // Whether there are neither too many items nor too few.

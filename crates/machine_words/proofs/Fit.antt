@@ -18,12 +18,12 @@ use Rattle.machine_words.specs.Keys.{TextsGiven, texts_given}
 use Rattle.machine_words.specs.Names.{axis_at, axis_named}
 use Rattle.machine_words.specs.Numbers.{number}
 use Rattle.machine_words.specs.Positions.{no_positions}
-use Rattle.machine_words.specs.Units.{IsUnits, acceleration_in, place_in, velocity_in}
+use Rattle.machine_words.specs.Units.{IsUnits, acceleration_in, jerk_in, velocity_in}
 use Rattle.machine_words.specs.RuleNumbers.{no_value, out_of_range, wrong_name}
 use Rattle.machine_words.specs.declared.units.Units.{Units}
 use Rattle.machine_words.proofs.Given.{AreGivenOf, ArePositions, given-of, left-out, no_positions-are, number-taken, positions-are, positions-left}
 use Rattle.machine_words.proofs.Names.{axis-within}
-use Rattle.machine_words.proofs.Smalls.{AreSmall, acceleration-small, number-small, place-small, velocity-small}
+use Rattle.machine_words.proofs.Smalls.{AreSmall, acceleration-small, jerk-small, number-small, velocity-small}
 use Rattle.line_text.proofs.Results.{bind_ok, found, ok_is}
 
 master-within : (s : Setup) (o : Option (List ℕ)) (n : ℕ) → 1 ≤ length s.axes → value_or 0 (axis_named wrong_name s) o ≡ Ok n → n < length s.axes
@@ -45,7 +45,7 @@ inputs_of-fit small units cycle s b g i some of h =
     let v = bind_ok (value_or (pos 0) (velocity_in units) g.velocity) _ i ps.2 in
     let a = bind_ok (value_or (pos 0) (acceleration_in units) g.acceleration) _ i v.2 in
     let d = bind_ok (value_or (pos 0) (acceleration_in units) g.deceleration) _ i a.2 in
-    let j = bind_ok (value_or (pos 0) (place_in units) g.jerk) _ i d.2 in
+    let j = bind_ok (value_or (pos 0) (jerk_in units) g.jerk) _ i d.2 in
     let m = bind_ok (value_or Aborting mode_of g.mode) _ i j.2 in
     let master = bind_ok (value_or 0 (axis_named wrong_name s) g.master) _ i m.2 in
     let n = bind_ok (value_or (pos 1) number g.numerator) _ i master.2 in
@@ -75,7 +75,7 @@ inputs_of-fit small units cycle s b g i some of h =
         velocity = number-taken (velocity_in units) (velocity-small small units cycle) (takes b.kind Velocity) (pos 0) g.velocity v.0 (lit≤ tt) of.velocity v.1;
         acceleration = number-taken (acceleration_in units) accelerates (takes b.kind Acceleration) (pos 0) g.acceleration a.0 (lit≤ tt) of.acceleration a.1;
         deceleration = number-taken (acceleration_in units) accelerates (takes b.kind Deceleration) (pos 0) g.deceleration d.0 (lit≤ tt) of.deceleration d.1;
-        jerk = number-taken (place_in units) (place-small small units) (takes b.kind Jerk) (pos 0) g.jerk j.0 (lit≤ tt) of.jerk j.1;
+        jerk = number-taken (jerk_in units) (jerk-small small units cycle) (takes b.kind Jerk) (pos 0) g.jerk j.0 (lit≤ tt) of.jerk j.1;
         mode = λ none. left-out Aborting mode_of g.mode m.0 m.1 (of.mode none);
         master = λ none. left-out 0 (axis_named wrong_name s) g.master master.0 master.1 (of.master none);
         numerator = number-taken number (number-small small) (takes b.kind Numerator) (pos 1) g.numerator n.0 (lit≤ tt) of.numerator n.1;

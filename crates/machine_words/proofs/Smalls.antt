@@ -12,9 +12,10 @@ use Rattle.fixed_units.specs.PerCycle.{per_cycle_of, per_cycle_squared_of}
 use Rattle.fixed_units.specs.declared.reading.UnitFault.{UnitFault}
 use Rattle.line_text.specs.Numbers.{number_of}
 use Rattle.line_text.specs.Reading.{◌>>=◌, each_of}
+use Rattle.motion_history.specs.declared.refused.TraceVersion.TheVariants.{One, Two, Three}
 use Rattle.motion_numbers.specs.declared.TheConstants.{MOST_NUMBER}
 use Rattle.machine_words.specs.Numbers.{number}
-use Rattle.machine_words.specs.Units.{IsUnits, acceleration_in, decimal_units, place_in, quantity, units_or_broken, velocity_in}
+use Rattle.machine_words.specs.Units.{IsCycle, IsUnits, acceleration_in, decimal_units, is_lost, jerk_in, jerk_of, place_in, quantity, units_or_broken, velocity_in}
 use Rattle.machine_words.specs.RuleNumbers.{no_value}
 use Rattle.machine_words.specs.declared.units.Units.{Units}
 use Rattle.machine_words.specs.declared.units.Units.TheVariants.{Internal, User}
@@ -57,12 +58,12 @@ spread-small b u c m few less =
 pub place-small : AreSmall → (units : Units) → ReadsSmall (place_in units)
 unfolding place_in
 place-small small Internal word z h = number-small small word z h
-place-small small (User cycle_us) word z h = quantity-small small word z h
+place-small small (User cycle_us version) word z h = quantity-small small word z h
 
 pub velocity-small : AreSmall → (units : Units) → IsUnits units → ReadsSmall (velocity_in units)
 unfolding velocity_in
 velocity-small small Internal cycle word z h = number-small small word z h
-velocity-small small (User cycle_us) cycle text z h =
+velocity-small small (User cycle_us version) cycle text z h =
     let q = bind_ok (quantity text) _ z h in
     let few : cycle_us ≤ 10 ^ 6 = le_trans cycle.longest (lit≤ tt) in
     subst IsSmall (ok_is (Ok (per_cycle_of q.0 cycle_us)) _ z refl q.2) (spread-small _ _ cycle_us (10 ^ 6) (quantity-small small text q.0 q.1) few)
@@ -70,10 +71,28 @@ velocity-small small (User cycle_us) cycle text z h =
 pub acceleration-small : AreSmall → (units : Units) → IsUnits units → ReadsSmall (acceleration_in units)
 unfolding acceleration_in
 acceleration-small small Internal cycle word z h = number-small small word z h
-acceleration-small small (User cycle_us) cycle text z h =
+acceleration-small small (User cycle_us version) cycle text z h =
     let q = bind_ok (quantity text) _ z h in
     let few : cycle_us * cycle_us ≤ 10 ^ 12 = le_trans (mul-le cycle_us cycle_us 100000 100000 cycle.longest cycle.longest) (lit≤ tt) in
     subst IsSmall (ok_is (Ok (per_cycle_squared_of q.0 cycle_us)) _ z refl q.2) (spread-small _ _ (cycle_us * cycle_us) (10 ^ 12) (quantity-small small text q.0 q.1) few)
+
+jerk_of-small : (u : ℤ) (cycle_us : ℕ) → IsSmall u → IsCycle cycle_us → IsSmall (jerk_of u cycle_us)
+jerk_of-small u cycle_us few cycle =
+    let square : cycle_us * cycle_us ≤ 10 ^ 10 = mul-le cycle_us cycle_us 100000 100000 cycle.longest cycle.longest in
+    let less : cycle_us * cycle_us * cycle_us ≤ 10 ^ 18 = le_trans (mul-le (cycle_us * cycle_us) cycle_us (10 ^ 10) 100000 square cycle.longest) (lit≤ tt) in
+    elim (cases_Bool (is_lost u cycle_us)) [
+      | inl lost ↦ rw lost (lit≤ tt)
+      | inr other ↦ rw other (spread-small _ _ (cycle_us * cycle_us * cycle_us) (10 ^ 18) few less)
+    ]
+
+pub jerk-small : AreSmall → (units : Units) → IsUnits units → ReadsSmall (jerk_in units)
+unfolding jerk_in
+jerk-small small Internal cycle word z h = number-small small word z h
+jerk-small small (User cycle_us Three) cycle text z h =
+    let q = bind_ok (quantity text) _ z h in
+    subst IsSmall (ok_is (Ok (jerk_of q.0 cycle_us)) _ z refl q.2) (jerk_of-small q.0 cycle_us (quantity-small small text q.0 q.1) cycle)
+jerk-small small (User cycle_us One) cycle word z h = quantity-small small word z h
+jerk-small small (User cycle_us Two) cycle word z h = quantity-small small word z h
 
 -- all that is read of words is small, where each is
 pub each-small : (read : List ℕ → Result ℤ ℕ) → ReadsSmall read → (words : List (List ℕ)) (zs : List ℤ) → each_of read words ≡ Ok zs → AllByRecursion IsSmall zs

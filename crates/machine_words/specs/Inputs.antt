@@ -19,7 +19,7 @@ use Rattle.machine_words.specs.Keys.{TextsGiven, key_of, texts_given}
 use Rattle.machine_words.specs.Names.{axis_at, axis_named}
 use Rattle.machine_words.specs.Numbers.{number}
 use Rattle.machine_words.specs.Positions.{is_semicolon, positions_from}
-use Rattle.machine_words.specs.Units.{acceleration_in, place_in, velocity_in}
+use Rattle.machine_words.specs.Units.{acceleration_in, jerk_in, place_in, velocity_in}
 use Rattle.machine_words.specs.RuleNumbers.{no_value, out_of_range, wrong_name}
 use Rattle.machine_words.specs.declared.units.Units.{Units}
 pub use Rattle.machine_words.specs.Positions.{no_positions}
@@ -47,7 +47,7 @@ inputs_of units s axes given = do
   velocity ← value_or (pos 0) (velocity_in units) given.velocity
   acceleration ← value_or (pos 0) (acceleration_in units) given.acceleration
   deceleration ← value_or (pos 0) (acceleration_in units) given.deceleration
-  jerk ← value_or (pos 0) (place_in units) given.jerk
+  jerk ← value_or (pos 0) (jerk_in units) given.jerk
   mode ← value_or Aborting mode_of given.mode
   master ← value_or 0 (axis_named wrong_name s) given.master
   numerator ← value_or (pos 1) number given.numerator

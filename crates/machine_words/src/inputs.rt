@@ -15,7 +15,7 @@ use crate::key::{Given, texts_given};
 use crate::master::{are_masters_there, master_or_first};
 use crate::position::{axes_of, positions_or_none};
 use crate::rule::{NO_VALUE, OUT_OF_RANGE, WRONG_NAME};
-use crate::units::{Units, acceleration_of, place_of, velocity_of};
+use crate::units::{Units, acceleration_of, jerk_of, velocity_of};
 use line_text::{LineFault, broken_unless, in_range, required, says};
 use motion_history::{BlockDef, Builder};
 use plc_types::{BufferMode, INPUTS_OFF, Inputs, mode_named};
@@ -100,7 +100,7 @@ fn read_inputs(
     inputs.velocity = velocity_or_none(units, given.velocity)?;
     inputs.acceleration = acceleration_or_none(units, given.acceleration)?;
     inputs.deceleration = acceleration_or_none(units, given.deceleration)?;
-    inputs.jerk = place_or_none(units, given.jerk)?;
+    inputs.jerk = jerk_or_none(units, given.jerk)?;
     inputs.mode = mode_or_aborting(given.mode)?;
     inputs.master = master_or_first(callee.machine, given.master)?;
     inputs.numerator = number_or(1, given.numerator)?;
@@ -134,13 +134,14 @@ fn acceleration_or_none(units: Units, text: Option<&[u8]>) -> Result<i64, LineFa
     }
 }
 
-// The quantity of a text, or 0.
-fn place_or_none(units: Units, text: Option<&[u8]>) -> Result<i64, LineFault>
+// The jerk of a text, or 0.
+fn jerk_or_none(units: Units, text: Option<&[u8]>) -> Result<i64, LineFault>
+    requires { IsUnits units }
     ensures { Gives (λ z. z)
-        (spec.value_or (pos 0) (quantities.place_in units) (text_of text.entry)) result }
+        (spec.value_or (pos 0) (quantities.jerk_in units) (text_of text.entry)) result }
 {
     match text {
-        Some(text) => place_of(units, text),
+        Some(text) => jerk_of(units, text),
         None => Ok(0),
     }
 }

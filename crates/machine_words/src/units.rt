@@ -1,15 +1,16 @@
 // Places and rates in the units of a text.
 
-ghost use Rattle.std.specs.Prelude.{◌≡◌, ◌≤◌, IfOk, unsigned_abs};
+ghost use Rattle.std.specs.Prelude.{◌≡◌, ◌≤◌, ◌^◌, IfOk, unsigned_abs};
 ghost use Rattle.line_text.specs.Reading.{Gives, each_of};
 ghost use Rattle.line_text.specs.Texts.{texts};
 ghost use Rattle.machine_words.specs.Units as spec;
-ghost use Rattle.machine_words.specs.Units.{IsUnits};
+ghost use Rattle.machine_words.specs.Units.{IsCycle, IsUnits};
 
 use crate::integer::number;
 use crate::rule::NO_VALUE;
-use fixed_units::{per_cycle, per_cycle2, read_units};
+use fixed_units::{per_cycle, per_cycle2, per_cycle3, read_units};
 use line_text::LineFault;
+use motion_history::TraceVersion;
 use motion_numbers::MOST_NUMBER;
 use std::alloc::Global;
 use std::str;
@@ -25,8 +26,12 @@ pub const LONGEST_CYCLE: u32 = 100_000;
 pub enum Units {
     /// Internal units, per cycle.
     Internal,
-    /// User units of 10^9 internal ones, per second, where a cycle has this many microseconds.
-    User { cycle_us: u32 },
+    /// User units of 10^9 internal ones, per second, where a cycle has this many microseconds, for a
+    /// machine of this version.
+    User {
+        cycle_us: u32,
+        version: TraceVersion,
+    },
 }
 
 /// The internal units of a decimal number of user units, or the rule is broken.
@@ -87,7 +92,7 @@ pub fn velocity_of(units: Units, word: &[u8]) -> Result<i64, LineFault>
 {
     match units {
         Units::Internal => number(word),
-        Units::User { cycle_us } => {
+        Units::User { cycle_us, .. } => {
             let speed = quantity(word)?;
             Ok(per_cycle(speed, cycle_us))
         }
@@ -102,9 +107,41 @@ pub fn acceleration_of(units: Units, word: &[u8]) -> Result<i64, LineFault>
 {
     match units {
         Units::Internal => number(word),
-        Units::User { cycle_us } => {
+        Units::User { cycle_us, .. } => {
             let change = quantity(word)?;
             Ok(per_cycle2(change, cycle_us))
         }
+    }
+}
+
+/// The jerk that a word is, in internal units per cycle cubed. In version 3 one that would be
+/// rounded to 0 is 1; before, it is taken as it is read.
+#[tactic(auto, unfolding(crate::specs::Units::jerk_in))]
+pub fn jerk_of(units: Units, word: &[u8]) -> Result<i64, LineFault>
+    requires { IsUnits units }
+    ensures { Gives (λ z. z) (spec.jerk_in units word.now) result }
+{
+    match units {
+        Units::Internal => number(word),
+        Units::User { cycle_us, version } => match version {
+            TraceVersion::Three => {
+                let jerk = quantity(word)?;
+                Ok(jerk_per_cycle(jerk, cycle_us))
+            }
+            TraceVersion::One | TraceVersion::Two => quantity(word),
+        },
+    }
+}
+
+// The jerk in a cycle of this many microseconds.
+fn jerk_per_cycle(jerk: i64, cycle_us: u32) -> i64
+    requires { (unsigned_abs jerk ≤ 10 ^ 18) × IsCycle cycle_us }
+    ensures { result ≡ spec.jerk_of jerk cycle_us }
+{
+    let per_cycle = per_cycle3(jerk, cycle_us);
+    if jerk != 0 && per_cycle == 0 {
+        1
+    } else {
+        per_cycle
     }
 }

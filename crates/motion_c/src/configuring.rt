@@ -49,10 +49,12 @@ pub extern "C" fn motion_open_config(
     }
 }
 
-// What both texts make: a configuration with tasks and blocks, and the microseconds of a cycle.
+// What both texts make: a configuration with tasks and blocks, the version of its text, and the
+// microseconds of a cycle.
 #[derive(Drop)]
 struct BothRead {
     config: Config,
+    version: TraceVersion,
     cycle_us: u32,
 }
 
@@ -66,7 +68,7 @@ fn configured(alloc: Global, config: &[u8], program: &[u8]) -> Result<Box<Machin
         Ok(both) => both,
         Err(fault) => return Err(fault),
     };
-    machine_of(alloc, both.config, TraceVersion::Two, both.cycle_us)
+    machine_of(alloc, both.config, both.version, both.cycle_us)
 }
 
 // The configuration with the tasks and blocks of the program.
@@ -78,9 +80,16 @@ fn read_both(alloc: Global, config: &[u8], program: &[u8]) -> Result<BothRead, T
         Err(fault) => return Err(fault),
     };
     let mut items = machine.config;
-    match read_program(alloc, program, &mut items, machine.cycle_us) {
+    match read_program(
+        alloc,
+        program,
+        &mut items,
+        machine.version,
+        machine.cycle_us,
+    ) {
         Ok(_) => Ok(BothRead {
             config: whole(items),
+            version: machine.version,
             cycle_us: machine.cycle_us,
         }),
         Err(fault) => Err(fault),

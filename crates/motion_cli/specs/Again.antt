@@ -7,7 +7,7 @@ use Rattle.outside.specs.Told.{FileMap}
 use Rattle.run_job.specs.Headline.{RunHeadline}
 use Rattle.st_job.specs.Headline.{StHeadline}
 use Rattle.trace_check.specs.Legal.{IsLegalTrace}
-use Rattle.trace_text.specs.Trace.{run_version}
+use Rattle.trace_text.specs.Trace.{run_version, trace_version}
 use Rattle.trace_text.specs.Writable.{found_trace}
 use Rattle.trace_text.specs.declared.command.Command.TheVariants.{Bench, Run}
 
@@ -23,7 +23,7 @@ abbrev pub RunTracesAreLegal : Type 0
 RunTracesAreLegal = (files : Option FileMap) (config program : List ℕ) (old new : Option (List ℕ))
     (before after : ℕ) (s : Status)
     (h : RunHeadline files config program old new (λ n. after ≡ before + n) s) →
-    IsLegalTrace (found_trace (run_version h.setup) Run h.setup h.history h.drives)
+    IsLegalTrace (found_trace (trace_version h.machine.version h.setup) Run h.setup h.history h.drives)
 
 -- and so is what is read of the trace of tasks in Structured Text
 abbrev pub StTracesAreLegal : Type 0

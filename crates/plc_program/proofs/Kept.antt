@@ -22,7 +22,7 @@ use Rattle.machine_words.specs.RuleNumbers.{no_value, no_version, out_of_place, 
 use Rattle.machine_words.specs.declared.units.Units.TheVariants.{User}
 use Rattle.motion_history.specs.Faults.{block_fault, name_fault, task_fault}
 use Rattle.motion_history.specs.Setup.{Setup}
-use Rattle.motion_history.specs.declared.refused.TraceVersion.TheVariants.{Two}
+use Rattle.motion_history.specs.declared.refused.TraceVersion.{TraceVersion}
 use Rattle.motion_history.specs.declared.config.BlockDef.{BlockDef}
 use Rattle.plc_program.specs.Calls.{call_meaning}
 use Rattle.plc_program.specs.Forms.{form_of, is_counted}
@@ -30,7 +30,7 @@ use Rattle.plc_types.specs.Flags.{flag_named}
 use Rattle.plc_program.specs.Lines.{block_meaning, repeat_meaning, wait_meaning}
 use Rattle.plc_program.specs.Named.{block_named}
 use Rattle.plc_program.specs.Programs.{AreTasksOf, IsBehindItsCall, IsCounted, IsLineOf, IsTask, is_called, repeating_after}
-use Rattle.plc_program.specs.Reading.{blocks_meaning, form_in, is_repeating, is_version, later_meaning, line_added, may_stand, meaning, opening, tasks_meaning, version_meaning, with_line, words_meaning}
+use Rattle.plc_program.specs.Reading.{blocks_meaning, form_in, is_repeating, later_meaning, line_added, may_stand, meaning, opening, tasks_meaning, version_meaning, version_of, with_line, words_meaning}
 use Rattle.plc_program.specs.SoFar.{SoFar, has_task, task_of, tasks_of}
 use Rattle.plc_program.specs.UnderWay.{IsSoFar}
 use Rattle.plc_program.specs.declared.form.Form.{Form}
@@ -111,8 +111,8 @@ call-is s (name ∷ []) l h = absurd (cc)
 call-is s (name ∷ state ∷ words) l h =
     let few = bind_ok (broken_unless (not (is_off state) || (length words == 0)) wrong_count) _ l h in
     let k = bind_ok (block_named s.setup (task_of s) name) _ l few.2 in
-    let b = bind_ok (ok_or (slice_get s.setup.blocks k.0) wrong_name) (λ b. inputs_by (User s.cycle_us) s.setup b state words >>= λ i. Ok (Call k.0 i)) l k.2 in
-    let i = bind_ok (inputs_by (User s.cycle_us) s.setup b.0 state words) _ l b.2 in
+    let b = bind_ok (ok_or (slice_get s.setup.blocks k.0) wrong_name) (λ b. inputs_by (User s.cycle_us s.machine) s.setup b state words >>= λ i. Ok (Call k.0 i)) l k.2 in
+    let i = bind_ok (inputs_by (User s.cycle_us s.machine) s.setup b.0 state words) _ l b.2 in
     record { block = k.0; inputs = i.0; is = sym (ok_is (Ok (Call k.0 i.0)) (Call k.0 i.0) l refl i.2) }
 
 call-next : InputsAreFit → (first : Setup) (s : SoFar) (words : List (List ℕ)) (l : Instruction) → IsSoFar first s → call_meaning s words ≡ Ok l → IsNext s l
@@ -206,26 +206,26 @@ record AddsBlock (s u : Setup) : Type 0 where
   block : BlockDef
   is : u ≡ record s { blocks = s.blocks ++ block ∷ [] }
 
-block-adds : (s : Setup) (task : ℕ) (words : List (List ℕ)) (u : Setup) → block_meaning s task words ≡ Ok u → AddsBlock s u
+block-adds : (version : TraceVersion) (s : Setup) (task : ℕ) (words : List (List ℕ)) (u : Setup) → block_meaning version s task words ≡ Ok u → AddsBlock s u
 unfolding block_meaning
-block-adds s task [] u h = absurd (cc)
-block-adds s task (name ∷ []) u h = absurd (cc)
-block-adds s task (name ∷ of_kind ∷ []) u h = absurd (cc)
-block-adds s task (name ∷ of_kind ∷ of_object ∷ []) u h =
+block-adds version s task [] u h = absurd (cc)
+block-adds version s task (name ∷ []) u h = absurd (cc)
+block-adds version s task (name ∷ of_kind ∷ []) u h = absurd (cc)
+block-adds version s task (name ∷ of_kind ∷ of_object ∷ []) u h =
     let free = bind_ok (broken_by rule_of (name_fault s name)) _ u h in
-    let kind = bind_ok (kind_of Two of_kind) _ u free.2 in
+    let kind = bind_ok (kind_of version of_kind) _ u free.2 in
     let object = bind_ok (object_named s kind.0 of_object) _ u kind.2 in
     let fits = bind_ok (broken_by rule_of (block_fault s name task kind.0 object.0)) _ u object.2 in
     let b : BlockDef = record { name = name; task = task; kind = kind.0; object = object.0 } in
     let v : Setup = record s { blocks = s.blocks ++ b ∷ [] } in
     record { block = b; is = sym (ok_is (Ok v) v u refl fits.2) }
-block-adds s task (name ∷ of_kind ∷ of_object ∷ other ∷ more) u h = absurd (cc)
+block-adds version s task (name ∷ of_kind ∷ of_object ∷ other ∷ more) u h = absurd (cc)
 
 blocks-kept : (first : Setup) (s t : SoFar) (words : List (List ℕ)) → IsSoFar first s → blocks_meaning s words ≡ Ok t → IsSoFar first t
 unfolding blocks_meaning
 blocks-kept first s t words k h =
-    let m = bind_ok (block_meaning s.setup (task_of s) words) _ t h in
-    let a = block-adds s.setup (task_of s) words m.0 m.1 in
+    let m = bind_ok (block_meaning s.version s.setup (task_of s) words) _ t h in
+    let a = block-adds s.version s.setup (task_of s) words m.0 m.1 in
     let u : Setup = record s.setup { blocks = s.setup.blocks ++ a.block ∷ [] } in
     let v : SoFar = record s { setup = u } in
     let next : Setup → Result SoFar ℕ = λ q. Ok (record s { setup = q }) in
@@ -277,8 +277,8 @@ later-kept fit setup s t (first ∷ words) k h =
 version-kept : (first : Setup) (s t : SoFar) (words : List (List ℕ)) → IsSoFar first s → version_meaning s words ≡ Ok t → IsSoFar first t
 unfolding version_meaning
 version-kept first s t words k h =
-    let v = bind_ok (broken_unless (is_version words) no_version) _ t h in
-    let u : SoFar = record s { begun = true } in
+    let v = bind_ok (ok_or (version_of s.machine words) no_version) _ t h in
+    let u : SoFar = record s { begun = true; version = v.0 } in
     subst (λ q. IsSoFar first q) (ok_is (Ok u) u t refl v.2) (record {
       cycle = k.cycle;
       adds = k.adds;
@@ -321,9 +321,9 @@ lines-kept fit first n s t (text ∷ more) k h =
     let u = bind_ok (at_line (n + 1) (line_meaning meaning s text)) (λ u. lines_meaning meaning (n + 1) u more) t h in
     lines-kept fit first (n + 1) u.0 t more (line_meaning-kept fit first s u.0 text k (line-ok (line_meaning meaning s text) (n + 1) u.0 u.1)) u.2
 
-opening-kept : (cycle_us : ℕ) (first : Setup) → IsCycle cycle_us → first.tasks ≡ [] → IsSoFar first (opening cycle_us first)
+opening-kept : (machine : TraceVersion) (cycle_us : ℕ) (first : Setup) → IsCycle cycle_us → first.tasks ≡ [] → IsSoFar first (opening machine cycle_us first)
 unfolding opening
-opening-kept cycle_us first cycle none = record {
+opening-kept machine cycle_us first cycle none = record {
   cycle = cycle;
   adds = record { axes = refl; groups = refl; tables = refl; cycles = refl; entries = refl };
   none = λ e. (refl, refl);
@@ -337,10 +337,10 @@ opening-kept cycle_us first cycle none = record {
 }
 
 -- a text leads to what holds
-pub text-kept : InputsAreFit → (cycle_us : ℕ) (first : Setup) (s t : SoFar) (text : List ℕ) → IsCycle cycle_us → first.tasks ≡ [] → s ≡ opening cycle_us first →
+pub text-kept : InputsAreFit → (machine : TraceVersion) (cycle_us : ℕ) (first : Setup) (s t : SoFar) (text : List ℕ) → IsCycle cycle_us → first.tasks ≡ [] → s ≡ opening machine cycle_us first →
     text_meaning meaning s text ≡ Ok t → IsSoFar first t
 unfolding text_meaning
-text-kept fit cycle_us first s t text cycle none is h = lines-kept fit first 0 s t (lines_of text) (rw is (opening-kept cycle_us first cycle none)) h
+text-kept fit machine cycle_us first s t text cycle none is h = lines-kept fit first 0 s t (lines_of text) (rw is (opening-kept machine cycle_us first cycle none)) h
 
 -- what holds anyway
 pub on-ok : {A E P : Type 0} (r : Result A E) → P → OnOk r P

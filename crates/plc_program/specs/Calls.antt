@@ -17,6 +17,6 @@ call_meaning s (name ∷ state ∷ words) = do
   _ ← broken_unless (not (is_off state) || (length words == 0)) wrong_count
   k ← block_named s.setup (task_of s) name
   b ← ok_or (slice_get s.setup.blocks k) wrong_name
-  i ← inputs_by (User s.cycle_us) s.setup b state words
+  i ← inputs_by (User s.cycle_us s.machine) s.setup b state words
   Ok (Call k i)
 call_meaning s _ = Err wrong_count

@@ -1,5 +1,5 @@
 -- What a program's lines and its text mean. This project's profile.
-use Rattle.std.specs.Prelude.{◌≡◌, ℕ, ◌==◌, Bool, true, false, not, ◌&&◌, if◌then◌else◌, codes, nat_lt, Result, Ok, Err, List, [], ◌∷◌, ◌++◌, length}
+use Rattle.std.specs.Prelude.{◌≡◌, ℕ, ◌==◌, Bool, true, false, not, ◌&&◌, if◌then◌else◌, codes, nat_le, nat_lt, Option, Some, None, Result, Ok, Err, List, [], ◌∷◌, ◌++◌, length}
 use Rattle.std.specs.Option.{ok_or}
 use Rattle.line_text.specs.Reading.{◌>>=◌, Meaning, reading_of}
 use Rattle.line_text.specs.Rules.{broken_unless}
@@ -9,9 +9,12 @@ use Rattle.machine_words.specs.Rules.{broken_by, refused_by, rule_of}
 use Rattle.machine_words.specs.RuleNumbers.{no_version, not_whole, out_of_place, too_many, wrong_count}
 use Rattle.motion_history.specs.Faults.{whole_fault}
 use Rattle.motion_history.specs.Setup.{Setup}
+use Rattle.motion_history.specs.Versions.{number_of}
 use Rattle.motion_history.specs.declared.refused.TextFault.{TextFault}
 use Rattle.motion_history.specs.declared.refused.TextFault.TheVariants.{Refused, OutOfMemory}
 use Rattle.motion_history.specs.declared.refused.TextRefused.{TextRefused}
+use Rattle.motion_history.specs.declared.refused.TraceVersion.{TraceVersion}
+use Rattle.motion_history.specs.declared.refused.TraceVersion.TheVariants.{One, Three}
 use Rattle.plc_program.specs.Calls.{call_meaning}
 use Rattle.plc_program.specs.Forms.{form_of, is_counted}
 use Rattle.plc_program.specs.Lines.{block_meaning, repeat_meaning, wait_meaning}
@@ -22,10 +25,12 @@ use Rattle.plc_program.specs.declared.program.Instruction.{Instruction}
 use Rattle.plc_program.specs.declared.program.Instruction.TheVariants.{Call, Wait, Repeat, Again}
 
 -- a program before its first line, for this machine
-unfoldable pub opening : ℕ → Setup → SoFar
-opening cycle_us s = record {
+unfoldable pub opening : TraceVersion → ℕ → Setup → SoFar
+opening machine cycle_us s = record {
+  machine = machine;
   cycle_us = cycle_us;
   begun = false;
+  version = One;
   setup = s;
   before = [];
   lines = [];
@@ -36,20 +41,23 @@ opening cycle_us s = record {
 unfoldable pub is_program : List ℕ → Bool
 is_program word = says word (codes "motion-program")
 
--- its version is 1
-unfoldable pub is_one : List ℕ → Bool
-is_one number = says number (codes "1")
+-- its version is 1, or it is 3 where its machine is of version 3
+unfoldable pub version_named : TraceVersion → List ℕ → Option TraceVersion
+version_named machine number =
+    if says number (codes "1") then Some One
+    else if says number (codes "3") && nat_le 3 (number_of machine) then Some Three else None
 
--- `motion-program 1`
-unfoldable pub is_version : List (List ℕ) → Bool
-is_version (word ∷ number ∷ []) = is_program word && is_one number
-is_version _ = false
+-- `motion-program 1`, or `motion-program 3`
+unfoldable pub version_of : TraceVersion → List (List ℕ) → Option TraceVersion
+version_of machine (word ∷ number ∷ []) =
+    if is_program word then version_named machine number else None
+version_of machine _ = None
 
 -- the first line gives the version
 unfoldable pub version_meaning : SoFar → List (List ℕ) → Result SoFar ℕ
 version_meaning s words = do
-  _ ← broken_unless (is_version words) no_version
-  Ok (record s { begun = true })
+  v ← ok_or (version_of s.machine words) no_version
+  Ok (record s { begun = true; version = v })
 
 -- whether a line of each form may stand here
 unfoldable pub may_stand : SoFar → Form → Bool
@@ -78,7 +86,7 @@ tasks_meaning s words = do
 -- `block ..` adds a block of the task
 unfoldable pub blocks_meaning : SoFar → List (List ℕ) → Result SoFar ℕ
 blocks_meaning s words = do
-  t ← block_meaning s.setup (task_of s) words
+  t ← block_meaning s.version s.setup (task_of s) words
   Ok (record s { setup = t })
 
 -- whether a task stands inside a repeat after a line
@@ -138,9 +146,9 @@ letter = 80
 
 -- the program that a text is for this machine, or the first line that breaks a rule and the first
 -- rule that it breaks
-unfoldable pub program_of : ℕ → Setup → List ℕ → Result Outcome TextRefused
-program_of cycle_us s text =
-    refused_by letter (reading_of meaning ending (opening cycle_us s) text)
+unfoldable pub program_of : TraceVersion → ℕ → Setup → List ℕ → Result Outcome TextRefused
+program_of machine cycle_us s text =
+    refused_by letter (reading_of meaning ending (opening machine cycle_us s) text)
 
 -- the answer, and what the machine is now, are this reading: the program, or the refusal; or memory
 -- ran out

@@ -30,6 +30,7 @@ pub fn call_of(reader: &ProgramReader, words: &[&[u8]]) -> Result<Instruction, L
         block,
         units: Units::User {
             cycle_us: reader.cycle_us(),
+            version: reader.configured,
         },
     };
     let inputs = inputs_by(reader.alloc, &callee, state, words)?;

@@ -13,11 +13,11 @@ use crate::call::call_of;
 use crate::form::{Form, form_of, is_counted};
 use crate::item::add_block;
 use crate::program::{Instruction, MOST_INSTRUCTIONS};
-use crate::version::is_version;
+use crate::version::version_of;
 use crate::wait::{repeat_of, wait_of};
-use line_text::{LineFault, LineReader, broken_unless};
+use line_text::{LineFault, LineReader, broken_unless, required};
 use machine_words::{NO_VERSION, OUT_OF_PLACE, TOO_MANY, WRONG_COUNT, add_task};
-use motion_history::Builder;
+use motion_history::{Builder, TraceVersion};
 use std::alloc::Global;
 use std::marker::Model;
 use std::mem;
@@ -26,8 +26,10 @@ use std::mem;
 #[derive(Drop)]
 pub struct ProgramReader {
     pub(crate) alloc: Global,
+    pub(crate) configured: TraceVersion,
     pub(crate) cycle_us: u32,
     pub(crate) begun: bool,
+    pub(crate) version: TraceVersion,
     pub(crate) machine: Builder,
     pub(crate) before: Vec<Vec<Instruction>>,
     pub(crate) lines: Vec<Instruction>,
@@ -42,8 +44,10 @@ impl Model for ProgramReader {
     ghost Value = { SoFar };
 
     ghost view = { λ r. record {
+      machine = r.configured;
       cycle_us = r.cycle_us;
       begun = r.begun;
+      version = r.version;
       setup = r.machine;
       before = map (λ v. v.items) r.before.items;
       lines = r.lines.items;
@@ -89,7 +93,7 @@ impl ProgramReader {
     fn read_version(&mut self, words: &[&[u8]]) -> Result<(), LineFault>
         ensures { Takes (spec.version_meaning self.old (texts words.now)) self.new result }
     {
-        broken_unless(is_version(words), NO_VERSION)?;
+        self.version = required(version_of(self.configured, words), NO_VERSION)?;
         self.begun = true;
         Ok(())
     }
@@ -177,7 +181,7 @@ impl ProgramReader {
         ensures { Takes (spec.blocks_meaning self.old (texts words.now)) self.new result }
     {
         let task = self.task();
-        add_block(&mut self.machine, task, words)
+        add_block(self.version, &mut self.machine, task, words)
     }
 
     // Takes a line of a call.

@@ -16,12 +16,13 @@ use crate::program::Program;
 use crate::reader::ProgramReader;
 use line_text::{LineRefused, LinesFault, lines_are_spelled, read_lines};
 use machine_words::{NOT_WHOLE, inputs_are_fit, is_whole, refused_by};
-use motion_history::{Builder, TextFault};
+use motion_history::{Builder, TextFault, TraceVersion};
 use std::alloc::Global;
 use std::mem;
 
-/// The program that a text is for a machine whose cycle is 100 to 100,000 microseconds long; the
-/// machine gets its tasks and blocks. A text that is none is refused at its first line that breaks
+/// The program that a text is for a machine whose cycle is 100 to 100,000 microseconds long, and
+/// whose configuration is of this version; the machine gets its tasks and blocks. A program of
+/// version 3 is one for machines of version 3 alone. A text that is none is refused at its first line that breaks
 /// a rule, by the first rule that it breaks: P1 to P10. The machine may then hold some of the
 /// text's tasks and blocks. It takes memory for the words of one line at a time, besides the
 /// program.
@@ -29,19 +30,20 @@ pub fn read_program(
     alloc: Global,
     text: &[u8],
     config: &mut Builder,
+    version: TraceVersion,
     cycle_us: u32,
 ) -> Result<Program, TextFault>
     requires tasks { config.old.tasks ≡ [] }
     requires cycle { IsCycle cycle_us }
     // What is read is a program of the text.
     ensures found { IfOk result
-        (λ p. IsProgramText cycle_us config.old text.now p config.new) }
+        (λ p. IsProgramText version cycle_us config.old text.now p config.new) }
     // A program of the text is read, unless memory runs out.
     ensures only { (program : List (List Instruction)) → (after : Setup) →
-        IsProgramText cycle_us config.old text.now program after →
+        IsProgramText version cycle_us config.old text.now program after →
         ReadsBy (Ok (record { program = program; setup = after })) result config.new }
     // A text that has none is refused so.
-    ensures exact { ReadsBy (spec.program_of cycle_us config.old text.now) result config.new }
+    ensures exact { ReadsBy (spec.program_of version cycle_us config.old text.now) result config.new }
     // What is read are tasks of the machine, and the machine is whole.
     ensures program { IfOk result (IsProgramOf config.new) }
     // Nothing else of the machine changes.
@@ -49,7 +51,7 @@ pub fn read_program(
 {
     // laws
     lines_are_spelled();
-    read(alloc, text, config, cycle_us)
+    read(alloc, text, config, version, cycle_us)
 }
 
 // The program that a text is.
@@ -57,11 +59,12 @@ fn read(
     alloc: Global,
     text: &[u8],
     config: &mut Builder,
+    version: TraceVersion,
     cycle_us: u32,
 ) -> Result<Program, TextFault>
     requires tasks { config.old.tasks ≡ [] }
     requires cycle { IsCycle cycle_us }
-    ensures exact { ReadsBy (spec.program_of cycle_us config.old text.now) result config.new }
+    ensures exact { ReadsBy (spec.program_of version cycle_us config.old text.now) result config.new }
     ensures program { IfOk result (IsProgramOf config.new) }
     ensures adds { OnOk result (AddsTasks config.old config.new) }
 {
@@ -69,21 +72,23 @@ fn read(
         return Err(TextFault::OutOfMemory);
     };
     let machine = mem::replace(config, empty);
-    let (machine, program) = read_text(alloc, text, machine, cycle_us);
+    let (machine, program) = read_text(alloc, text, machine, version, cycle_us);
     *config = machine;
     program
 }
 
 // A program before its first line.
 #[tactic(auto, unfolding(crate::specs::Reading::opening))]
-fn opened(alloc: Global, machine: Builder, cycle_us: u32) -> ProgramReader
+fn opened(alloc: Global, machine: Builder, version: TraceVersion, cycle_us: u32) -> ProgramReader
     requires { IsCycle cycle_us }
-    ensures { result ≡ spec.opening cycle_us machine }
+    ensures { result ≡ spec.opening version cycle_us machine }
 {
     ProgramReader {
         alloc,
+        configured: version,
         cycle_us,
         begun: false,
+        version: TraceVersion::One,
         machine,
         before: Vec::new(alloc),
         lines: Vec::new(alloc),
@@ -97,17 +102,18 @@ fn read_text(
     alloc: Global,
     text: &[u8],
     machine: Builder,
+    version: TraceVersion,
     cycle_us: u32,
 ) -> (Builder, Result<Program, TextFault>)
     requires tasks { machine.tasks ≡ [] }
     requires cycle { IsCycle cycle_us }
-    ensures exact { ReadsBy (spec.program_of cycle_us machine text.now) result.1 result.0 }
+    ensures exact { ReadsBy (spec.program_of version cycle_us machine text.now) result.1 result.0 }
     ensures program { IfOk result.1 (IsProgramOf result.0) }
     ensures adds { OnOk result.1 (AddsTasks machine result.0) }
 {
     // laws
     inputs_are_fit();
-    let mut reader = opened(alloc, machine, cycle_us);
+    let mut reader = opened(alloc, machine, version, cycle_us);
     match read_lines(alloc, text, &mut reader) {
         Ok(last) => program_of(reader, last),
         Err(LinesFault::Refused(refused)) => (reader.machine, Err(refusal(refused))),

@@ -14,6 +14,7 @@ use Rattle.job_ends.specs.declared.status.Status.TheVariants as status
 use Rattle.machine_config.specs.declared.machine.Machine.{Machine}
 use Rattle.motion_history.specs.Entries.{Entry}
 use Rattle.motion_history.specs.Setup.{Setup}
+use Rattle.motion_history.specs.declared.refused.TraceVersion.{TraceVersion}
 use Rattle.motion_history.specs.declared.drives.DriveDef.{DriveDef}
 use Rattle.plc_program.specs.Reading.{Outcome}
 use Rattle.plc_program.specs.declared.program.Instruction.{Instruction}
@@ -46,19 +47,19 @@ ended-traced status.CyclesOver setup h e = refl
 ended-traced status.HistoryFull setup h e = refl
 ended-traced s setup h e = absurd e
 
-pub shown : (refused : Type 0) (Started : ℕ → Type 0) (config program : List ℕ)
+pub shown : (version : TraceVersion) (refused : Type 0) (Started : ℕ → Type 0) (config program : List ℕ)
     (x : Machine × Outcome) (setup : Setup) (tasks : List (List Instruction))
     (drives : List DriveDef) (old new : Output) (s : Status) →
-    EndsByPlant refused Started setup tasks drives old new s →
+    EndsByPlant version refused Started setup tasks drives old new s →
     EndsGiven (run_job refused config program) x old new s
-shown refused Started config program x setup tasks drives old new s (inl h) =
+shown version refused Started config program x setup tasks drives old new s (inl h) =
     let t = ended-traced h.writes.status setup h.history h.writes.ended in
     of-plan refused config program x old new
-    (plans.run_plan h.writes.status setup h.history (map plans.end_row h.logs)) s h.writes.ends
+    (plans.run_plan version h.writes.status setup h.history (map plans.end_row h.logs)) s h.writes.ends
     (inr t)
     (traced-unfaulted h.writes.status t) (traced-no-text h.writes.status t)
-shown refused Started config program x setup tasks drives old new s (inr (inl h)) =
+shown version refused Started config program x setup tasks drives old new s (inr (inl h)) =
     of-plan refused config program x old new plans.no_thread_plan s h.1 (inl (refl, h.0)) refl refl
-shown refused Started config program x setup tasks drives old new s (inr (inr h)) =
-    let plan = plans.run_plan status.Ok setup [] [] in
+shown version refused Started config program x setup tasks drives old new s (inr (inr h)) =
+    let plan = plans.run_plan version status.Ok setup [] [] in
     of-plan refused config program x old new plan s (early old new plan s h) (inr refl) refl refl

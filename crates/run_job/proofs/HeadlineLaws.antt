@@ -29,12 +29,12 @@ use Rattle.run_job.specs.Plants.{IsProgramOfMachine}
 ran-headline : AreReadBack → (told : Option FileMap) (refuses : Type 0)
     (Started : ℕ → Type 0) (config program : List ℕ) (old new : Output) (s : Status) →
     (b : EndsByBoth told refuses Started config program old new s) →
-    WritesRun Started b.outcome.setup b.outcome.program b.machine.drives old new s →
+    WritesRun b.machine.version Started b.outcome.setup b.outcome.program b.machine.drives old new s →
     is_traced s ≡ true → RunHeadline told config program old.told new.told Started s
 ran-headline back told refuses Started config program old new s b w t =
     let setup = b.outcome.setup in
     let drives = drives_at_opening setup.axes b.machine.drives in
-    let plan = run_plan w.writes.status setup w.history (map end_row w.logs) in
+    let plan = run_plan b.machine.version w.writes.status setup w.history (map end_row w.logs) in
     let all = traces old new plan s w.writes.ends t in
     let meets : (i : ℕ) (d : DriveSim) (g : DriveLog) → slice_get drives i ≡ Some d →
     slice_get w.logs i ≡ Some g → DriveMeets d (0 + i) w.history g =
@@ -72,7 +72,7 @@ both-headline : AreReadBack → (told : Option FileMap) (refuses : Type 0)
     RunHeadline told config program old.told new.told Started s
 both-headline back told refuses Started config program old new s b t = by b.ends
   where
-    by : EndsByPlant refuses Started b.outcome.setup b.outcome.program b.machine.drives old new s →
+    by : EndsByPlant b.machine.version refuses Started b.outcome.setup b.outcome.program b.machine.drives old new s →
         RunHeadline told config program old.told new.told Started s
     by (inl w) = ran-headline back told refuses Started config program old new s b w t
     by (inr (inl h)) = absurd (untraced old new no_thread_plan s h.1 refl t)
@@ -84,7 +84,7 @@ pub ended : AreReadBack → (told : Option FileMap) (rose refused : Type 0) (Sta
     Course told rose refused Started config program old new s →
     EndsByRun told rose refused Started config program old new s
 ended back told rose refused Started config program old new s course =
-    let of_machine = λ (m : Machine). program_of m.cycle_us m.config in
+    let of_machine = λ (m : Machine). program_of m.version m.cycle_us m.config in
     record {
       course = course;
       says = both-says told rose config program most_bytes most_bytes machine_of Configures
@@ -97,7 +97,7 @@ ended back told rose refused Started config program old new s course =
             both-there told config program most_bytes most_bytes machine_of
                 Configures of_machine (IsProgramOfMachine b.machine) b.machine b.outcome b.gives
                 b.tasks,
-            shown refused Started config program (b.machine, b.outcome) b.outcome.setup
+            shown b.machine.version refused Started config program (b.machine, b.outcome) b.outcome.setup
                 b.outcome.program
                 b.machine.drives old new s b.ends,
           )) course;

@@ -11,18 +11,19 @@ use Rattle.job_ends.specs.declared.status.Status.{Status}
 use Rattle.machine_drives.specs.Drives.{drives_at_opening}
 use Rattle.motion_history.specs.Entries.{Entry, cycles_of}
 use Rattle.motion_history.specs.Setup.{Setup}
+use Rattle.motion_history.specs.declared.refused.TraceVersion.{TraceVersion}
 use Rattle.motion_history.specs.declared.drives.DriveDef.{DriveDef}
 use Rattle.motion_kernel.specs.Tasks.{live_tasks}
 use Rattle.motion_plant.specs.Ran.{PlantRan}
 use Rattle.motion_plant.specs.declared.ending.RunEnding.{RunEnding}
 use Rattle.motion_plant.specs.declared.ending.RunEnding.TheVariants as ending
-use Rattle.motion_plant.specs.declared.plant.Plant.{Plant}
+use Rattle.run_job.specs.declared.reading.RunRead.{RunRead}
 use Rattle.outside.specs.Told.{FileMap}
 use Rattle.plc_program.specs.Programs.{IsProgramOf}
 use Rattle.plc_program.specs.declared.program.Instruction.{Instruction}
 use Rattle.setpoint_ring.specs.declared.logs.DriveLog.{DriveLog}
 use Rattle.trace_check.specs.KeptHistories.{IsReadBack}
-use Rattle.trace_text.specs.Trace.{run_version, trace_text}
+use Rattle.trace_text.specs.Trace.{trace_version, trace_text}
 use Rattle.trace_text.specs.writing.Writes.{Output, Writes}
 use Rattle.trace_text.specs.declared.command.Command.TheVariants.{Run}
 use Rattle.trace_text.specs.declared.drive_end.DriveEndRow.{DriveEndRow}
@@ -44,30 +45,30 @@ ended-so s h ending.HistoryFull ok over full room =
     let by = full.0 refl in (by.0, by.1, room refl)
 
 -- the trace was written as far as the output took it
-pub wrote : (s : Setup) (h : List Entry) (logs : List DriveLog) (old new : Output) (e : RunEnding)
+pub wrote : (version : TraceVersion) (s : Setup) (h : List Entry) (logs : List DriveLog) (old new : Output) (e : RunEnding)
     (rows : List DriveEndRow) (given r : Status) (written : Result (Unit {0}) TraceFault) →
     HasEnded (status_of e) s h → given ≡ status_of e → rows ≡ map end_row logs →
-    Writes old new (trace_text (run_version s) Run s h rows) written → IsReadBack (run_version s) Run s h rows →
-    r ≡ status_by given written → WritesTrace s h logs old new r
-wrote s h logs old new e rows given r written has is same writes back by = record {
+    Writes old new (trace_text (trace_version version s) Run s h rows) written → IsReadBack (trace_version version s) Run s h rows →
+    r ≡ status_by given written → WritesTrace version s h logs old new r
+wrote version s h logs old new e rows given r written has is same writes back by = record {
   status = status_of e;
   ended = has;
   ends = record {
     written = written;
-    writes = subst (λ ds. Writes old new (trace_text (run_version s) Run s h ds) written) same writes;
+    writes = subst (λ ds. Writes old new (trace_text (trace_version version s) Run s h ds) written) same writes;
     status = by ∙ ap (λ x. status_by x written) is;
   };
-  again = λ t. subst (λ ds. IsReadBack (run_version s) Run s h ds) same back;
+  again = λ t. subst (λ ds. IsReadBack (trace_version version s) Run s h ds) same back;
 }
 
 -- nothing was written, for out of memory
-pub wrote-none : (s : Setup) (h : List Entry) (logs : List DriveLog)
+pub wrote-none : (version : TraceVersion) (s : Setup) (h : List Entry) (logs : List DriveLog)
     (old new : Output) (e : RunEnding) (r : Status) → HasEnded (status_of e) s h →
-    EndsEarly old new r → WritesTrace s h logs old new r
-wrote-none s h logs old new e r has none = record {
+    EndsEarly old new r → WritesTrace version s h logs old new r
+wrote-none version s h logs old new e r has none = record {
   status = status_of e;
   ended = has;
-  ends = early old new (run_plan (status_of e) s h (map end_row logs)) r none;
+  ends = early old new (run_plan version (status_of e) s h (map end_row logs)) r none;
   again = λ t. absurd (let bad : true ≡ false = sym t ∙ ap is_traced none.status in cc);
 }
 
@@ -82,47 +83,49 @@ drives-each (a ∷ as_) (d ∷ ds) e =
     drives-each as_ ds (omega arith) in omega arith
 
 -- the run of a machine that is the same
-pub ran-same : (Started : ℕ → Type 0) (s t : Setup) (program : List (List Instruction))
+pub ran-same : (version : TraceVersion) (Started : ℕ → Type 0) (s t : Setup) (program : List (List Instruction))
     (drives : List DriveDef) (h : List Entry) (logs : List DriveLog) (old new : Output)
     (r : Status) → t ≡ s → Started (length s.axes + length s.tasks) →
-    PlantRan s program (drives_at_opening s.axes drives) h logs → WritesTrace t h logs old new r →
-    WritesRun Started s program drives old new r
-ran-same Started s t program drives h logs old new r same started ran writes = record {
+    PlantRan s program (drives_at_opening s.axes drives) h logs → WritesTrace version t h logs old new r →
+    WritesRun version Started s program drives old new r
+ran-same version Started s t program drives h logs old new r same started ran writes = record {
   started = started;
   history = h;
   logs = logs;
   ran = ran;
-  writes = subst (λ x. WritesTrace x h logs old new r) same writes;
+  writes = subst (λ x. WritesTrace version x h logs old new r) same writes;
 }
 
 -- the course of a run whose files give a plant
 pub by-plant : (told : Option FileMap) (rose refused : Type 0) (Started : ℕ → Type 0)
-    (config program : List ℕ) (plant : Plant) (old old1 new : Output) (s : Status) →
-    GivesPlant told config program plant → old1 ≡ old →
-    EndsByPlant refused Started plant.config (arc_value plant.program) plant.drives old1 new s →
+    (config program : List ℕ) (r : RunRead) (old old1 new : Output) (s : Status) →
+    GivesPlant told config program r → old1 ≡ old →
+    EndsByPlant r.version refused Started r.plant.config (arc_value r.plant.program) r.plant.drives old1 new s →
     Course told rose refused Started config program old new s
-by-plant told rose refused Started config program plant old old1 new s g same e =
+by-plant told rose refused Started config program r old old1 new s g same e =
     let is = g.tasks.is in
     let o = g.tasks.outcome in
-    let here : EndsByPlant refused Started plant.config (arc_value plant.program) plant.drives old
+    let here : EndsByPlant r.version refused Started r.plant.config (arc_value r.plant.program) r.plant.drives old
     new s =
-    subst (λ x. EndsByPlant refused Started plant.config (arc_value plant.program) plant.drives x
+    subst (λ x. EndsByPlant r.version refused Started r.plant.config (arc_value r.plant.program) r.plant.drives x
     new s) same e in
-    let setup : EndsByPlant refused Started o.setup (arc_value plant.program) plant.drives old new
+    let setup : EndsByPlant r.version refused Started o.setup (arc_value r.plant.program) r.plant.drives old new
     s =
-    subst (λ x. EndsByPlant refused Started x (arc_value plant.program) plant.drives old new s)
+    subst (λ x. EndsByPlant r.version refused Started x (arc_value r.plant.program) r.plant.drives old new s)
     is.setup here in
-    let lines : EndsByPlant refused Started o.setup o.program plant.drives old new s =
-    subst (λ x. EndsByPlant refused Started o.setup x plant.drives old new s) is.lines setup in
+    let lines : EndsByPlant r.version refused Started o.setup o.program r.plant.drives old new s =
+    subst (λ x. EndsByPlant r.version refused Started o.setup x r.plant.drives old new s) is.lines setup in
     inr (record {
       machine = g.machine;
       outcome = o;
       gives = g.gives;
       tasks = g.tasks.gives;
       whole = subst (λ x. IsProgramOf o.setup x) is.lines
-          (subst (λ x. IsProgramOf x (arc_value plant.program)) is.setup is.program);
+          (subst (λ x. IsProgramOf x (arc_value r.plant.program)) is.setup is.program);
       each = ap length (sym is.simulated) ∙ is.each
           ∙ ap (λ (x : Setup). length x.axes) is.setup;
-      ends = subst (λ x. EndsByPlant refused Started o.setup o.program x old new s) is.simulated
-          lines;
+      ends = subst (λ v. EndsByPlant v refused Started o.setup o.program g.machine.drives old new s)
+          is.version
+          (subst (λ x. EndsByPlant r.version refused Started o.setup o.program x old new s)
+          is.simulated lines);
     })

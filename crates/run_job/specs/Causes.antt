@@ -13,5 +13,5 @@ use Rattle.job_ends.specs.Machines.{most_bytes}
 -- refused or there is a trace
 abbrev pub run_job : Type 0 → List ℕ → List ℕ → Job
 run_job refused config program = both_job config most_bytes machine_of program most_bytes
-    (λ (m : Machine). program_of m.cycle_us m.config) (λ given wanted. ⊥) false
+    (λ (m : Machine). program_of m.version m.cycle_us m.config) (λ given wanted. ⊥) false
     (λ s. ((s ≡ status.ThreadRefused) × refused) ⊎ (is_traced s ≡ true))

@@ -8,6 +8,7 @@ use Rattle.machine_config.specs.declared.machine.Machine.{Machine}
 use Rattle.machine_drives.specs.Drives.{drives_at_opening}
 use Rattle.motion_history.specs.Entries.{Entry}
 use Rattle.motion_history.specs.Setup.{Setup}
+use Rattle.motion_history.specs.declared.refused.TraceVersion.{TraceVersion}
 use Rattle.motion_history.specs.declared.drives.DriveDef.{DriveDef}
 use Rattle.motion_plant.specs.Ran.{PlantRan}
 use Rattle.outside.specs.Told.{FileMap}
@@ -16,7 +17,7 @@ use Rattle.plc_program.specs.Reading.{Outcome}
 use Rattle.plc_program.specs.declared.program.Instruction.{Instruction}
 use Rattle.setpoint_ring.specs.declared.logs.DriveLog.{DriveLog}
 use Rattle.trace_check.specs.KeptHistories.{IsReadBack}
-use Rattle.trace_text.specs.Trace.{run_version}
+use Rattle.trace_text.specs.Trace.{trace_version}
 use Rattle.trace_text.specs.declared.command.Command.TheVariants.{Run}
 use Rattle.trace_text.specs.writing.Writes.{Output}
 use Rattle.run_job.specs.Causes.{run_job}
@@ -26,29 +27,29 @@ use Rattle.job_ends.specs.Machines.{GivesMachine}
 use Rattle.run_job.specs.Plants.{GivesProgram, NoPlant}
 
 -- the trace of a history with these logs was written, with the status that says how it ended
-pub record WritesTrace (setup : Setup) (h : List Entry) (logs : List DriveLog) (old new : Output)
+pub record WritesTrace (version : TraceVersion) (setup : Setup) (h : List Entry) (logs : List DriveLog) (old new : Output)
     (s : Status) : Type 0 where
   pub status : Status
   pub ended : HasEnded status setup h
-  pub ends : EndsBy old new (run_plan status setup h (map end_row logs)) s
+  pub ends : EndsBy old new (run_plan version status setup h (map end_row logs)) s
   -- where the status stands for a trace, its text is read as that of all this
-  pub again : is_traced s ≡ true → IsReadBack (run_version setup) Run setup h (map end_row logs)
+  pub again : is_traced s ≡ true → IsReadBack (trace_version version setup) Run setup h (map end_row logs)
 
 -- a plant ran, and the trace of its history was written
-pub record WritesRun (Started : ℕ → Type 0) (setup : Setup) (program : List (List Instruction))
+pub record WritesRun (version : TraceVersion) (Started : ℕ → Type 0) (setup : Setup) (program : List (List Instruction))
     (drives : List DriveDef) (old new : Output) (s : Status) : Type 0 where
   pub started : Started (length setup.axes + length setup.tasks)
   pub history : List Entry
   pub logs : List DriveLog
   pub ran : PlantRan setup program (drives_at_opening setup.axes drives) history logs
-  pub writes : WritesTrace setup history logs old new s
+  pub writes : WritesTrace version setup history logs old new s
 
 -- how the job ends with a plant: it ran; or a thread was refused, and it was said so; or memory ran
 -- out
-abbrev pub EndsByPlant : Type 0 → (ℕ → Type 0) → Setup → List (List Instruction) →
+abbrev pub EndsByPlant : TraceVersion → Type 0 → (ℕ → Type 0) → Setup → List (List Instruction) →
     List DriveDef → Output → Output → Status → Type 0
-EndsByPlant refused Started setup program drives old new s =
-    WritesRun Started setup program drives old new s ⊎
+EndsByPlant version refused Started setup program drives old new s =
+    WritesRun version Started setup program drives old new s ⊎
     ((refused × EndsBy old new no_thread_plan s) ⊎ EndsEarly old new s)
 
 -- how it ends where the files give a machine and its program
@@ -60,7 +61,7 @@ pub record EndsByBoth (told : Option FileMap) (refused : Type 0) (Started : ℕ 
   pub tasks : GivesProgram told program machine outcome
   pub whole : IsProgramOf outcome.setup outcome.program
   pub each : length machine.drives ≡ length outcome.setup.axes
-  pub ends : EndsByPlant refused Started outcome.setup outcome.program machine.drives old new s
+  pub ends : EndsByPlant machine.version refused Started outcome.setup outcome.program machine.drives old new s
 
 -- how it ends: the files give no plant, or they give one
 abbrev pub Course : Option FileMap → Type 0 → Type 0 → (ℕ → Type 0) → List ℕ → List ℕ →

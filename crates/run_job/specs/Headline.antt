@@ -20,7 +20,7 @@ use Rattle.plc_program.specs.Programs.{IsProgramOf}
 use Rattle.plc_program.specs.Spelled.{IsProgramText}
 use Rattle.plc_program.specs.declared.program.Instruction.{Instruction}
 use Rattle.trace_check.specs.KeptHistories.{IsReadBack}
-use Rattle.trace_text.specs.Trace.{run_version, trace_text}
+use Rattle.trace_text.specs.Trace.{trace_version, trace_text}
 use Rattle.trace_text.specs.declared.command.Command.TheVariants.{Run}
 use Rattle.trace_text.specs.declared.drive_end.DriveEndRow.{DriveEndRow}
 
@@ -47,7 +47,8 @@ pub record RunHeadline (files : Option FileMap) (config program : List ℕ)
   pub tasks : List (List Instruction)
   pub setup : Setup
   pub program_file : HasFile files program program_text
-  pub spelled : IsProgramText machine.cycle_us machine.config program_text tasks setup
+  pub spelled : IsProgramText machine.version machine.cycle_us machine.config program_text tasks
+      setup
   -- it has lines for each task, and the machine a drive for each axis
   pub whole : IsProgramOf setup tasks
   pub each : length machine.drives ≡ length setup.axes
@@ -75,6 +76,6 @@ pub record RunHeadline (files : Option FileMap) (config program : List ℕ)
   -- the status says how the history ends
   pub ended : HasEnded s setup history
   -- what was written is the text of all this, in its version
-  pub written : Appends old new (trace_text (run_version setup) Run setup history drives)
+  pub written : Appends old new (trace_text (trace_version machine.version setup) Run setup history drives)
   -- and that text is read as the trace of all this
-  pub again : IsReadBack (run_version setup) Run setup history drives
+  pub again : IsReadBack (trace_version machine.version setup) Run setup history drives

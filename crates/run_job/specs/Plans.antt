@@ -8,10 +8,11 @@ use Rattle.job_ends.specs.declared.status.Status.{Status}
 use Rattle.job_ends.specs.declared.status.Status.TheVariants as status
 use Rattle.motion_history.specs.Entries.{Entry}
 use Rattle.motion_history.specs.Setup.{Setup}
+use Rattle.motion_history.specs.declared.refused.TraceVersion.{TraceVersion}
 use Rattle.motion_plant.specs.declared.ending.RunEnding.{RunEnding}
 use Rattle.motion_plant.specs.declared.ending.RunEnding.TheVariants as ending
 use Rattle.setpoint_ring.specs.declared.logs.DriveLog.{DriveLog}
-use Rattle.trace_text.specs.Trace.{run_version, trace_text}
+use Rattle.trace_text.specs.Trace.{trace_version, trace_text}
 use Rattle.trace_text.specs.declared.command.Command.TheVariants.{Run}
 use Rattle.trace_text.specs.declared.drive_end.DriveEndRow.{DriveEndRow}
 
@@ -19,10 +20,10 @@ use Rattle.trace_text.specs.declared.drive_end.DriveEndRow.{DriveEndRow}
 abbrev pub no_thread_plan : Plan
 no_thread_plan = record { status = status.ThreadRefused; text = codes "thread refused\n" }
 
--- a history was made, and its trace is written
-abbrev pub run_plan : Status → Setup → List Entry → List DriveEndRow → Plan
-run_plan s setup h drives =
-    record { status = s; text = trace_text (run_version setup) Run setup h drives }
+-- a history was made, and its trace is written, for a configuration of this version
+abbrev pub run_plan : TraceVersion → Status → Setup → List Entry → List DriveEndRow → Plan
+run_plan version s setup h drives =
+    record { status = s; text = trace_text (trace_version version setup) Run setup h drives }
 
 -- the status by how a plant's run has ended
 abbrev pub status_of : RunEnding → Status

@@ -1,10 +1,11 @@
 // The machine of two files is run.
 
-ghost use Rattle.std.specs.Prelude.{◌≡◌, ◌≤◌, ◌+◌, length};
+ghost use Rattle.std.specs.Prelude.{◌≡◌, ◌≢◌, ◌≤◌, ◌+◌, length};
 ghost use Rattle.std.specs.Arc.{arc_value};
 ghost use Rattle.std.specs.List.{All};
 ghost use Rattle.job_ends.specs.Ends.{EndsBy};
 ghost use Rattle.motion_history.specs.Drives.{IsDrive};
+ghost use Rattle.motion_history.specs.declared.refused.TraceVersion.TheVariants as TraceVersion;
 ghost use Rattle.outside.specs.Faults.{Rose};
 ghost use Rattle.plc_program.specs.Programs.{IsProgramOf};
 ghost use Rattle.run_job.specs.Ends.{EndsByPlant, EndsByRun};
@@ -12,11 +13,11 @@ ghost use Rattle.run_job.specs.Joined.{JoinsAll};
 ghost use Rattle.run_job.specs.Plans.{no_thread_plan};
 
 use crate::names::RunNames;
-use crate::reading::read_plant;
+use crate::reading::{RunRead, read_plant};
 use crate::trace::write_run;
 use cia402_machine::statuswords_are_read_back;
 use job_ends::{Status, say_all};
-use motion_plant::{Plant, PlantFault, PlantJob, run_plant};
+use motion_plant::{PlantFault, PlantJob, run_plant};
 use outside::{Files, Gate, Host, MOST_JOBS, Sink, Spawner};
 use std::alloc::Global;
 use std::sync::Wait;
@@ -46,7 +47,7 @@ pub fn run_files<F: Files, K: Sink, H: Host + Wait, G: Gate + Drop + Send + 'sta
     // laws
     statuswords_are_read_back();
     match read_plant(alloc, names, files, out) {
-        Ok(plant) => run_read(rt, alloc, &plant, out, spawner, gate),
+        Ok(read) => run_read(rt, alloc, &read, out, spawner, gate),
         Err(status) => status,
     }
 }
@@ -55,24 +56,25 @@ pub fn run_files<F: Files, K: Sink, H: Host + Wait, G: Gate + Drop + Send + 'sta
 fn run_read<K: Sink, H: Host + Wait, G: Gate + Drop + Send + 'static>(
     rt: &H,
     alloc: Global,
-    plant: &Plant,
+    read: &RunRead,
     out: &mut K,
     spawner: &mut Spawner<H, PlantJob<G>>,
     gate: &G,
 ) -> Status
     requires few { length spawner.old.jobs + 24 ≤ MOST_JOBS }
-    requires program { IsProgramOf plant.now.config (arc_value plant.now.program) }
-    requires each { length plant.now.drives ≡ length plant.now.config.axes }
-    requires drives { All IsDrive plant.now.drives }
-    ensures ends { EndsByPlant (Rose spawner.old.faults spawner.new.faults)
+    requires version { read.now.version ≢ TraceVersion.One }
+    requires program { IsProgramOf read.now.plant.config (arc_value read.now.plant.program) }
+    requires each { length read.now.plant.drives ≡ length read.now.plant.config.axes }
+    requires drives { All IsDrive read.now.plant.drives }
+    ensures ends { EndsByPlant read.now.version (Rose spawner.old.faults spawner.new.faults)
         (λ n. length spawner.new.jobs ≡ length spawner.old.jobs + n)
-        plant.now.config (arc_value plant.now.program) plant.now.drives
+        read.now.plant.config (arc_value read.now.plant.program) read.now.plant.drives
         (record { count = K.count out.old; told = K.told out.old })
         (record { count = K.count out.new; told = K.told out.new }) result }
     ensures joined { JoinsAll spawner.old.jobs spawner.new.jobs }
 {
-    match run_plant(rt, alloc, plant, spawner, gate) {
-        Ok(end) => write_run(alloc, &end, out),
+    match run_plant(rt, alloc, &read.plant, spawner, gate) {
+        Ok(end) => write_run(alloc, read.version, &end, out),
         Err(PlantFault::ThreadRefused) => say_thread_refused(out),
         Err(PlantFault::OutOfMemory) => Status::OutOfMemory,
     }

@@ -1,12 +1,12 @@
 // The trace of a run is written.
 
-ghost use Rattle.std.specs.Prelude.{◌≡◌, ◌≤◌, ◌-◌, ◌^◌, ◌≤ℤ◌, neg_ℤ, pos, All, IfOk, length, map};
+ghost use Rattle.std.specs.Prelude.{◌≡◌, ◌≢◌, ◌≤◌, ◌-◌, ◌^◌, ◌≤ℤ◌, neg_ℤ, pos, All, IfOk, length, map};
 ghost use Rattle.motion_plant.specs.Ran.{EndsSo};
 ghost use Rattle.run_job.specs.Ends.{WritesTrace};
 ghost use Rattle.run_job.specs.Plans as plans;
 ghost use Rattle.trace_check.specs.KeptHistories.{IsReadBack};
 ghost use Rattle.trace_text.specs.RowRanges.{IsDriveEnd};
-ghost use Rattle.trace_text.specs.Trace.{run_version, trace_text};
+ghost use Rattle.trace_text.specs.Trace.{trace_version, trace_text};
 ghost use Rattle.trace_text.specs.writing.Writes.{Writes};
 
 use cia402_machine::state_of;
@@ -20,11 +20,18 @@ use std::alloc::{AllocError, Global};
 use trace_check::kept_histories_are_read_back;
 use trace_text::{Command, DriveEndRow, TraceFault, trace_version, write_trace};
 
-/// Writes the trace of a plant's run, and answers how the run ended.
-pub fn write_run<K: Sink>(alloc: Global, end: &PlantEnd, out: &mut K) -> Status
+/// Writes the trace of a plant's run for a configuration of this version, and answers how the run
+/// ended.
+pub fn write_run<K: Sink>(
+    alloc: Global,
+    version: TraceVersion,
+    end: &PlantEnd,
+    out: &mut K,
+) -> Status
+    requires version { version ≢ TraceVersion.One }
     requires ends { EndsSo end.now.kernel.config end.now.kernel.history }
     requires each { length end.now.drives.items ≡ length end.now.kernel.config.axes }
-    ensures { WritesTrace end.now.kernel.config end.now.kernel.history end.now.drives.items
+    ensures { WritesTrace version end.now.kernel.config end.now.kernel.history end.now.drives.items
         (record { count = K.count out.old; told = K.told out.old })
         (record { count = K.count out.new; told = K.told out.new }) result }
 {
@@ -34,16 +41,17 @@ pub fn write_run<K: Sink>(alloc: Global, end: &PlantEnd, out: &mut K) -> Status
     };
     let taken = rows.as_slice();
     // laws
-    trace_is_read_back(end, taken);
-    let written = write_rows(alloc, end, taken, out);
+    trace_is_read_back(version, end, taken);
+    let written = write_rows(alloc, version, end, taken, out);
     status_by(status, written)
 }
 
 // The trace of a run is read as that of its machine, its history and its drives: the kernel keeps
 // of its history, and a row of what its drive took, what a trace asks for. Nothing else runs.
-fn trace_is_read_back(end: &PlantEnd, rows: &[DriveEndRow])
+fn trace_is_read_back(version: TraceVersion, end: &PlantEnd, rows: &[DriveEndRow])
+    requires version { version ≢ TraceVersion.One }
     requires each { length rows.now ≡ length end.now.kernel.config.axes }
-    ensures { IsReadBack (run_version end.now.kernel.config) Command.Run end.now.kernel.config
+    ensures { IsReadBack (trace_version version end.now.kernel.config) Command.Run end.now.kernel.config
         end.now.kernel.history
         rows.now }
 {
@@ -90,6 +98,7 @@ fn rows_have_their_bits(rows: &[DriveEndRow])
 // Writes the trace of a run with what its drives took.
 fn write_rows<K: Sink>(
     alloc: Global,
+    version: TraceVersion,
     end: &PlantEnd,
     rows: &[DriveEndRow],
     out: &mut K,
@@ -97,14 +106,14 @@ fn write_rows<K: Sink>(
     requires each { length rows.now ≡ length end.now.kernel.config.axes }
     ensures { Writes (record { count = K.count out.old; told = K.told out.old })
         (record { count = K.count out.new; told = K.told out.new })
-        (trace_text (run_version end.now.kernel.config) Command.Run end.now.kernel.config
+        (trace_text (trace_version version end.now.kernel.config) Command.Run end.now.kernel.config
         end.now.kernel.history
         rows.now) result }
 {
     let history = end.kernel.history();
     write_trace(
         alloc,
-        trace_version(TraceVersion::Two, end.kernel.config()),
+        trace_version(version, end.kernel.config()),
         Command::Run,
         end.kernel.config(),
         history,

@@ -10,7 +10,7 @@ use Rattle.outside.specs.Told.{FileMap}
 use Rattle.trace_text.specs.writing.Writes.{Output}
 use Rattle.st_rounds.specs.Controllers.{cell_of}
 use Rattle.st_job.specs.Ends.{Course}
-use Rattle.job_ends.specs.Machines.{GivesMachine}
+use Rattle.st_job.specs.Machines.{GivesMachine}
 use Rattle.st_job.specs.Given.{GivesController, GivesProgram}
 use Rattle.st_job.specs.Again.{IsTracedRun}
 use Rattle.st_job.specs.Plans.{plan_of}

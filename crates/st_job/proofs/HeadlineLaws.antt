@@ -9,7 +9,7 @@ use Rattle.job_ends.proofs.Statuses.{traced-wordless}
 use Rattle.job_ends.specs.Causes.{is_traced}
 use Rattle.job_ends.specs.declared.status.Status.{Status}
 use Rattle.machine_config.specs.Configured.{Configures}
-use Rattle.machine_config.specs.Reading.{machine_of}
+use Rattle.st_job.specs.Machines.{st_machine_of}
 use Rattle.machine_config.specs.declared.machine.Machine.{Machine}
 use Rattle.machine_drives.specs.Drives.{drive_end, drives_at_opening}
 use Rattle.motion_history.specs.Entries.{cycles_of}
@@ -78,19 +78,19 @@ ended laws told rose config program old new s course =
     let of_machine = λ (m : Machine). reading_of m.config in
     record {
       course = course;
-      says = both-says told rose config program most_bytes most_bytes machine_of Configures
+      says = both-says told rose config program most_bytes most_bytes st_machine_of Configures
           of_machine
           (λ given wanted. ⊥) false (λ x. is_traced x ≡ true) _ old new s
           (λ b. (
             (b.gives.machine, b.gives.tasks.is.outcome),
             both-there told config program most_bytes
-                most_bytes machine_of Configures of_machine (λ text o. Unit {0}) b.gives.machine
+                most_bytes st_machine_of Configures of_machine (λ text o. Unit {0}) b.gives.machine
                 b.gives.tasks.is.outcome b.gives.gives
                 (program-read told program b.gives.machine b.cell b.gives.tasks),
             shown told config program (b.gives.machine, b.gives.tasks.is.outcome) old new s b,
           )) course;
       headline = λ t. both-headline laws told config program old new s
-          (both-read told rose config program most_bytes most_bytes machine_of Configures
+          (both-read told rose config program most_bytes most_bytes st_machine_of Configures
           of_machine _
           old new s (traced-unfaulted s t) (traced-wordless s t) course) t;
     }

@@ -1,3 +1,4 @@
+pub mod MachineLaws
 pub mod TraceLaws
 pub mod GivenLaws
 pub mod CauseLaws

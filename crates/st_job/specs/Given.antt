@@ -1,10 +1,9 @@
 -- What the two files of the job give. This project's profile.
 use Rattle.std.specs.Prelude.{◌≡◌, ℕ, Option, Result, Ok, Err, List}
 use Rattle.job_ends.specs.Files.{GivesReading, IsText, NoBoth, NoReading}
-use Rattle.job_ends.specs.Machines.{GivesMachine, most_bytes}
+use Rattle.job_ends.specs.Machines.{most_bytes}
 use Rattle.job_ends.specs.declared.status.Status.{Status}
 use Rattle.machine_config.specs.Configured.{Configures}
-use Rattle.machine_config.specs.Reading.{machine_of}
 use Rattle.machine_config.specs.declared.machine.Machine.{Machine}
 use Rattle.motion_history.specs.declared.refused.TextFault.{TextFault}
 use Rattle.motion_history.specs.declared.refused.TextFault.TheVariants.{Refused, OutOfMemory}
@@ -13,6 +12,7 @@ use Rattle.st_check.specs.Reading.{Outcome, reading_of}
 use Rattle.st_build.specs.Spelled.{IsStText}
 use Rattle.trace_text.specs.writing.Writes.{Output}
 use Rattle.st_rounds.specs.Ready.{AreReady}
+use Rattle.st_job.specs.Machines.{GivesMachine, st_machine_of}
 use Rattle.st_rounds.specs.declared.cell.Controller.{Controller}
 
 -- a text is the program that a controller has for a machine, and may be run
@@ -47,7 +47,7 @@ pub record GivesController (told : Option FileMap) (config program : List ℕ) (
 abbrev pub NoController : Option FileMap → Type 0 → List ℕ → List ℕ → Output → Output → Status →
     Type 0
 NoController told rose config program old new s =
-    NoBoth told rose config program most_bytes most_bytes machine_of Configures
+    NoBoth told rose config program most_bytes most_bytes st_machine_of Configures
     (λ (m : Machine). reading_of m.config) old new s
 
 -- the controller of a machine and the program that a text is, or why it is none

@@ -1,5 +1,6 @@
 pub mod Plans
 pub mod Again
+pub mod Machines
 pub mod Given
 pub mod Causes
 pub mod Headline

@@ -3,6 +3,7 @@
 //! `st_rounds`, which runs the tasks, and on `job_ends`. Begin at [`st_files`].
 #![tactic(auto)]
 
+mod machine;
 mod reading;
 mod st;
 mod trace;

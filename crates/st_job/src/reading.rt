@@ -5,7 +5,8 @@ ghost use Rattle.machine_config.specs.Machines.{IsMachine};
 ghost use Rattle.outside.specs.Faults.{Rose};
 ghost use Rattle.st_job.specs.Given.{ControllerBy, GivesController, GivesProgram, NoController, NoProgram};
 
-use job_ends::{MOST_BYTES, Status, read_machine, read_text, say_refused, whole};
+use crate::machine::read_st_machine;
+use job_ends::{MOST_BYTES, Status, read_text, say_refused, whole};
 use machine_config::Machine;
 use motion_history::TextFault;
 use outside::{Files, Sink};
@@ -31,7 +32,7 @@ pub fn read_controller<F: Files, K: Sink>(
         (record { count = K.count out.new; told = K.told out.new })) }
     ensures silent { OnOk result (out.new ≡ out.old) }
 {
-    let machine = read_machine(alloc, config_name, files, out)?;
+    let machine = read_st_machine(alloc, config_name, files, out)?;
     read_tasks(alloc, program_name, machine, files, out)
 }
 
@@ -68,6 +69,7 @@ fn controller_of(alloc: Global, machine: Machine, text: &[u8]) -> Result<Control
         mut config,
         cycle_us,
         drives,
+        ..
     } = machine;
     // laws
     scans_call_the_machine();

@@ -27,7 +27,8 @@ FORMS = {
         "repeat": "repeat N", "again": "again"},
     "switches": {"switch": "switch NAME AXIS ON OFF HYST"},
 }
-VERSIONS = {"bench": ("motion-bench 1", "motion-bench 2"), "program": ("motion-program 1",),
+VERSIONS = {"bench": ("motion-bench 1", "motion-bench 2", "motion-bench 3"),
+            "program": ("motion-program 1", "motion-program 3"),
             "switches": ("motion-switches 1",)}
 RULE_OF = {                     # what is wrong with a word, by the rules of each text
     "bench": {"byte": "B1", "version": "B2", "first": "B3", "count": "B4", "name": "B5",
@@ -58,6 +59,7 @@ class Context:
     switches: list[str] = field(default_factory=list)
     tables: int = 0
     version: str = ""
+    third: bool = True                                      # whether the configuration is of version 3
     gone: bool = False                                      # `go` stands above
     once: set[str] = field(default_factory=set)             # lines that may come once, and came
     repeats: bool = False

@@ -5,12 +5,12 @@ from collections.abc import Callable
 from motion_tools.blocks import FLAGS, MODES, acts_on_group, keys_of
 from motion_tools.explain.finder import (FORMS, NAME, NUMBER, POINT, QUANTITY, Finder, Word,
                                          is_number)
-from motion_tools.trace import BLOCK_KINDS
+from motion_tools.trace import BLOCK_KINDS, LATER_KINDS
 
 
 def axis_line(found: Finder) -> None:
-    """`axis`, which has DMAX in version 2."""
-    second = found.context.version.endswith("2")
+    """`axis`, which has DMAX from version 2 on."""
+    second = found.context.version.endswith(("2", "3"))
     form = FORMS["bench"]["axis"].replace("AMAX", "AMAX DMAX") if second else FORMS["bench"]["axis"]
     titles = [word for word in form.split()[2:] if word != "[ready]"]
     if not found.count(len(titles) + 2, len(titles) + 3, form):
@@ -104,7 +104,9 @@ def block_line(found: Finder) -> None:
     if bench:
         found.one_of(found.words[2], found.context.tasks, "task")
     kind, on = found.words[-2:]
-    if kind.text not in BLOCK_KINDS:
+    if kind.text in LATER_KINDS and not found.context.version.endswith("3"):
+        found.add("known", kind, f"{kind.text} is a kind of version 3")
+    elif kind.text not in (*BLOCK_KINDS, *LATER_KINDS):
         found.add("known", kind, f"there is no kind of block {kind.text}")
     elif acts_on_group(kind.text):
         found.one_of(on, found.context.groups, "group")

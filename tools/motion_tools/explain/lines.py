@@ -112,6 +112,9 @@ def faults_in(found: Finder, words: list[str]) -> None:
         wanted = VERSIONS[context.kind]
         if " ".join(words) not in wanted:
             found.add("version", found.words[0], f"the first line with words is not {wanted[0]}")
+        elif context.kind == "program" and words[1] == "3" and not context.third:
+            found.add("version", found.words[1], "a program of version 3 needs version = 3 in its "
+                      "configuration")
         return
     if words and (reason := misplaced(context, words)):
         found.add("first", found.words[0], reason)

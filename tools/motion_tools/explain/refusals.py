@@ -63,7 +63,8 @@ def below(options: argparse.Namespace, kind: str, text: str, place: int,
         found = [fault for fault in st.faults_of(text, axes, groups) if fault.line > first.line]
     elif kind in ("program", "bench", "switches"):
         axes = trace_axes(options) if kind == "switches" else axes if kind == "program" else []
-        context = lines.Context(kind, axes, groups if kind == "program" else {})
+        context = lines.Context(kind, axes, groups if kind == "program" else {},
+                                third=is_third(options))
         found = lines.faults_below(text, place, context)
     else:
         return []
@@ -112,7 +113,7 @@ def fault_of(options: argparse.Namespace, kind: str, text: str, place: int, rule
     axes, groups = names_of(options) if kind == "program" else ([], {})
     if kind == "switches":
         axes = trace_axes(options)
-    found = lines.faults_at(text, place, lines.Context(kind, axes, groups))
+    found = lines.faults_at(text, place, lines.Context(kind, axes, groups, third=is_third(options)))
     return chosen([fault for fault in found if fault.says or fault.rule == rule], place,
                   rule) or whole
 
@@ -157,6 +158,12 @@ def names_of(options: argparse.Namespace) -> tuple[list[str], dict[str, list[str
     """The axes and the groups of the configuration among the files."""
     config = config_named(options)
     return ([axis.name for axis in config.axes], config.groups) if config else ([], {})
+
+
+def is_third(options: argparse.Namespace) -> bool:
+    """Whether the configuration among the files is of version 3, where one is there."""
+    config = config_named(options)
+    return config is None or config.version == 3
 
 
 def trace_axes(options: argparse.Namespace) -> list[str]:

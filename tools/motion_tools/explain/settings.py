@@ -13,8 +13,8 @@ from typing import Any, Optional
 from motion_tools.config import QUANTITY, units_in
 from motion_tools.explain.faults import Fault
 
-TOP = {"cycle_us": "integer", "cycles": "integer", "entries": "integer", "axis": "tables",
-       "group": "tables", "table": "tables"}
+TOP = {"version": "integer", "cycle_us": "integer", "cycles": "integer", "entries": "integer",
+       "axis": "tables", "group": "tables", "table": "tables"}
 ITEM_KEYS: dict[str, dict[str, str]] = {
     "axis": {"name": "string", "lo": "quantity", "hi": "quantity", "vmax": "quantity",
              "amax": "quantity", "dmax": "quantity", "increment": "quantity", "start": "quantity",
@@ -22,7 +22,7 @@ ITEM_KEYS: dict[str, dict[str, str]] = {
     "group": {"name": "string", "axes": "strings"},
     "table": {"points": "strings"},
 }
-OPTIONAL = {"group", "table", "dmax", "ready", "lag", "faults"}
+OPTIONAL = {"version", "group", "table", "dmax", "ready", "lag", "faults"}
 RANGES = {"cycle_us": (100, 100_000), "cycles": (1, 200_000), "entries": (1, 1_000_000),
           "lag": (0, 64)}
 NAME = re.compile(r"[A-Za-z][A-Za-z0-9_]{0,15}")
@@ -58,6 +58,8 @@ def fault_at(text: str, place: int, rule: str) -> Optional[Fault]:
             if rule == "C1" else None
     for kind, number, key, says in broken(data, place, rule, units_in(text)):
         return placed(text, rule, kind, number, key, says)
+    if (place, rule, data.get("version")) == (0, "C5", 3):
+        return placed(text, rule, "", 0, "version", "the configuration is of version 3")
     return None
 
 
@@ -155,7 +157,7 @@ def broken(data: dict[str, Any], place: int, rule: str,
     if check:
         found = check(item, ITEM_KEYS[kind], kind)
     elif rule == "C4":
-        found = name_faults(items, place - 1)
+        found = name_faults(items, place - 1, "version" in data)
     elif rule == "C5":
         unit = units[number] if kind == "axis" else ""
         found = range_faults(item, data["cycle_us"], unit)
@@ -171,6 +173,8 @@ def top_faults(data: dict[str, Any], rule: str) -> Iterator[tuple[str, str]]:
     if rule == "C2":
         yield from type_faults(data, TOP, "configuration")
     elif rule == "C5":
+        if data.get("version", 3) != 3:
+            yield "version", f"version is {data['version']}, and is 3 or left out"
         for key in ("cycle_us", "cycles", "entries"):
             low, high = RANGES[key]
             if not low <= data[key] <= high:
@@ -230,14 +234,19 @@ def is_quantity(value: object) -> bool:
     return bool(QUANTITY.fullmatch(text)) and abs(Fraction(text)) <= 10**9
 
 
-def name_faults(items: list[Item], place: int) -> Iterator[tuple[str, str]]:
-    """A name that is none or is used, and axes of a group that aren't free."""
+def name_faults(items: list[Item], place: int, third: bool) -> Iterator[tuple[str, str]]:
+    """A name that is none or is used, in version 3 in any case of letters, and axes of a group that
+    aren't free."""
     kind, _, item = items[place]
     name = item.get("name", "")
     if kind != "table" and not NAME.fullmatch(name):
         yield "name", f'"{name}" is no name: a letter, then up to 15 letters, digits or _'
     if kind != "table" and name in [other.get("name") for _, _, other in items[:place]]:
         yield "name", f"the name {name} is used above"
+    elif kind != "table" and third:
+        for other in [str(other.get("name")) for _, _, other in items[:place]]:
+            if other.lower() == name.lower():
+                yield "name", f"{name} is {other} above in another case of letters"
     axes = [other.get("name") for each, _, other in items if each == "axis"]
     taken = {axis: other["name"] for each, _, other in items[:place] if each == "group"
              for axis in other["axes"]}

@@ -65,30 +65,39 @@ fn writes_numbers(rt: HostRuntime) -> Result<(), Fail> {
 
 #[test]
 fn turns_rates_into_steps(rt: HostRuntime) {
-    // Units per second or per second squared, the cycle in microseconds, the step and its change.
+    // Units per second, per second squared or cubed, the cycle in microseconds, the step, its change
+    // and the jerk.
     let cases = [
-        (500_000_000_000, 1_000, 500_000_000, 500_000),
-        (2_000_000_000_000, 1_000, 2_000_000_000, 2_000_000),
-        (-2_000_000_000_000, 1_000, -2_000_000_000, -2_000_000),
-        (0, 100, 0, 0),
-        (9_999, 100, 0, 0),
-        (-9_999, 100, 0, 0),
-        (10_000, 100, 1, 0),
-        (-19_999, 100, -1, 0),
+        (500_000_000_000, 1_000, 500_000_000, 500_000, 500),
+        (2_000_000_000_000, 1_000, 2_000_000_000, 2_000_000, 2_000),
+        (
+            -2_000_000_000_999,
+            1_000,
+            -2_000_000_000,
+            -2_000_000,
+            -2_000,
+        ),
+        (0, 100, 0, 0, 0),
+        (9_999, 100, 0, 0, 0),
+        (-9_999, 100, 0, 0, 0),
+        (10_000, 100, 1, 0, 0),
+        (-19_999, 100, -1, 0, 0),
         (
             1_000_000_000_000_000_000,
             100_000,
             100_000_000_000_000_000,
             10_000_000_000_000_000,
+            1_000_000_000_000_000,
         ),
         (
             -1_000_000_000_000_000_000,
             100_000,
             -100_000_000_000_000_000,
             -10_000_000_000_000_000,
+            -1_000_000_000_000_000,
         ),
     ];
-    for (value, cycle_us, step, change) in cases {
+    for (value, cycle_us, step, change, jerk) in cases {
         assert!(rt; (-1_000_000_000_000_000_000..=1_000_000_000_000_000_000).contains(&value));
         assert!(rt; 100 <= cycle_us && cycle_us <= 100_000);
         assert_eq!(rt; per_cycle(value, cycle_us), step, "{value} in {cycle_us}");
@@ -97,5 +106,6 @@ fn turns_rates_into_steps(rt: HostRuntime) {
             change,
             "{value} in {cycle_us}"
         );
+        assert_eq!(rt; per_cycle3(value, cycle_us), jerk, "{value} in {cycle_us}");
     }
 }

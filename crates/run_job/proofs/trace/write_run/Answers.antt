@@ -7,14 +7,14 @@ use Rattle.run_job.proofs.trace.write_run.Goals as goal
 
 pub returns-in_default : goal.returns-in_default
 returns-in_default g c =
-    wrote-none _ _ _ _ _ _ _
+    wrote-none _ _ _ _ _ _ _ _
     (ended-so _ _ _ c.ending_of.ensures.ok c.ending_of.ensures.over c.ending_of.ensures.full
     c.ending_of.ensures.entries)
     (record { status = refl; output = refl })
 
 pub returns : goal.returns
 returns g c =
-    wrote _ _ _ _ _ _ _ _ _ _
+    wrote _ _ _ _ _ _ _ _ _ _ _
     (ended-so _ _ _ c.ending_of.ensures.ok c.ending_of.ensures.over c.ending_of.ensures.full
     c.ending_of.ensures.entries)
     c.status_of-status.ensures
