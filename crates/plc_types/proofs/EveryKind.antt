@@ -1,5 +1,5 @@
 -- What computes to true at each kind of the list holds of every kind: a fact of rows needs no clause by kind.
--- for: names_are_read_back
+-- for: crates above
 use Rattle.std.proofs.Common.{◌≡◌, List, [], ◌∷◌, Bool, true, false, ◌&&◌, cond, refl, Some}
 use Rattle.std.specs.List.{find, list_all}
 use Rattle.std.specs.Str.{bytes_eq}
