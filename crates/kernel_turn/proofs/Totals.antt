@@ -119,11 +119,6 @@ unfolding if_found
 found_is None h = absurd (omega arith)
 found_is (Some f) h = (f, refl)
 
-pub no_found : (k : Option KernelState) → if_found k ≡ 0 → k ≡ None
-unfolding if_found
-no_found None h = refl
-no_found (Some f) h = absurd (omega arith)
-
 pub hand_le : (h : Option ℕ) → if_hand h ≤ 1
 unfolding if_hand
 hand_le None = omega arith

@@ -1,5 +1,5 @@
 -- What a turn makes of the kernel that it found: one entry, or none. This project's profile.
-use Rattle.std.specs.Prelude.{◌≡◌, ℕ, ◌+◌, ◌<◌, ◌≤◌, ◌⊎◌, [], ◌∷◌, ◌++◌, length, map, List}
+use Rattle.std.specs.Prelude.{◌≡◌, ℕ, ◌+◌, ◌<◌, ◌≤◌, ◌⊎◌, length, map, List}
 use Rattle.plc_types.specs.declared.axis.AxisRow.{AxisRow}
 use Rattle.plc_types.specs.declared.drive.DriveIn.{DriveIn}
 use Rattle.plc_types.specs.declared.drive.DriveOut.{DriveOut}

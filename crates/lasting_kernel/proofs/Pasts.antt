@@ -3,11 +3,11 @@
 use Rattle.std.specs.Prelude.{◌≡◌, refl, ℕ, ◌+◌, List, [], ◌∷◌, length}
 use Rattle.std.proofs.Common.{◌∙◌, ap, arith, length-append, subst, sym}
 use Rattle.std.proofs.lemmas.List.{length-map}
-use Rattle.lasting_kernel.specs.Lasting.{HasPast, LastingState, after_hand_over, opened, whole_of, with_entry}
+use Rattle.lasting_kernel.specs.Lasting.{HasPast, LastingState, after_hand_over, opened, whole_of}
 use Rattle.motion_history.specs.Entries.{Entry, call, cycle, cycles_of, end_of}
 use Rattle.motion_history.specs.Setup.{Setup}
 use Rattle.motion_history.proofs.HistoryLemmas.{cycles_of-append}
-use Rattle.motion_kernel.specs.Segments.{SegmentedState, counted_on, machine_now}
+use Rattle.motion_kernel.specs.Segments.{counted_on, machine_now}
 use Rattle.motion_kernel.specs.Histories.{IsLegalFrom, IsPast, machine_from}
 use Rattle.motion_kernel.specs.Machine.{machine_at_opening}
 
@@ -28,12 +28,6 @@ counted-cycles n (end_of task ∷ es) = ap (λ c. 0 + c) (counted-cycles n es)
 pub opened-has : (k : LastingState) (s : Setup) → k ≡ opened s → HasPast k
 unfolding machine_from
 opened-has k s e = subst HasPast (sym e) (record { past = record { follows = tt }; start = refl; entries = refl; cycles = refl })
-
--- an entry more leaves the past
-pub entry-has : (k : LastingState) (b : SegmentedState) (e : Entry) → HasPast k → b ≡ (with_entry k e).kernel → HasPast (record k { kernel = b })
-entry-has k b e has same =
-    subst (λ (x : SegmentedState). HasPast (record k { kernel = x })) (sym same)
-    (record { past = has.past; start = has.start; entries = has.entries; cycles = has.cycles })
 
 -- the segment is legal from the machine to which the past leads
 pub legal-behind : (k : LastingState) → HasPast k → IsLegalFrom k.kernel.config k.kernel.start k.kernel.history →
