@@ -1,4 +1,4 @@
--- What is kept of the past: at opening, with an entry more, and where a segment is handed over.
+-- What is kept of the past: at opening, and where a segment is handed over.
 -- for: open, hand_over, forget and others
 use Rattle.std.specs.Prelude.{◌≡◌, refl, ℕ, ◌+◌, List, [], ◌∷◌, length}
 use Rattle.std.proofs.Common.{◌∙◌, ap, arith, length-append, subst, sym}

@@ -72,12 +72,6 @@ seat_more program k k' seats seats' z i each more is same len =
       stops = is.stops;
     })))
 
-pub seats_own : {G : Type 0} (program : List (List Instruction)) (k : PermitState) (table : TableId)
-    (s : Setup) (seats : List (Snapshot (TaskJob G))) → Each (λ i z. IsSeat program k i z.value)
-    seats → k.table ≡ table → k.config ≡ s → Each (IsSeated table s) seats
-seats_own program k table s seats each t c i z at = let j = each i z at in
-    record { table_is = j.table ∙ t; task = j.task; config = j.config ∙ c; stops = j.stops }
-
 pub new_stand : (axes : List AxisDef) (defs : List DriveDef) (ls : List DriveLinkState) →
     Each (IsNewLink axes defs) ls → Each (IsInStep []) ls
 new_stand axes defs ls each i l at = let n = each i l at in record {

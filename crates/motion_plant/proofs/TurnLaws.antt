@@ -174,9 +174,6 @@ left_twice a b c p q = let x = p.longer in let y = q.longer in record {
   longer = omega arith;
 }
 
-pub left_first : (a : PermitState) → LeavesAll a a
-left_first a = record { fixed = refl; made = refl; longer = omega arith }
-
 -- what repeats of a call come to
 pub record CallMade (first new : PermitState) (t after k : ℕ) (i : Inputs) (answer : Outputs)
     (cycles : ℕ) : Type 0 where

@@ -18,7 +18,7 @@ use Rattle.motion_history.specs.declared.sizes.TheConstants.{MOST_MEMBERS}
 use Rattle.motion_kernel.proofs.cycles.Rows.{grow_count}
 use Rattle.motion_kernel.proofs.kept.Machine.{MachinesStayKept, kept_by_cycle}
 use Rattle.motion_kernel.specs.Counted.{IsCounted, RowsAreCounted}
-use Rattle.motion_kernel.specs.Histories.{Follows, IsCycleOf, IsLegal, IsPast, inputs_of}
+use Rattle.motion_kernel.specs.Histories.{Follows, IsCycleOf, IsPast, inputs_of}
 use Rattle.motion_kernel.specs.calls.Calls.{after_call}
 use Rattle.motion_kernel.specs.cycles.Cycles.{after_cycle}
 use Rattle.motion_kernel.specs.Machine.{Machine, machine_at_opening}
