@@ -270,7 +270,8 @@ class Readers(unittest.TestCase):
 
     def test_lines(self):
         of_cell = {"axes": ["X", "Y", "A", "B"], "groups": {"G": ["A", "B"]}}
-        for name, kind, given in (("programs", "program", of_cell), ("benches", "bench", {}),
+        for name, kind, given in (("programs", "program", {**of_cell, "third": False}),
+                                  ("programs_three", "program", of_cell), ("benches", "bench", {}),
                                   ("keys_of_kinds", "bench", {}),
                                   ("switches", "switches", {"axes": ["X", "Y"]}),
                                   ("switch_ranges", "switches", {"axes": ["X", "Y"]})):

@@ -103,6 +103,7 @@ fn write_rows<K: Sink>(
     rows: &[DriveEndRow],
     out: &mut K,
 ) -> Result<(), TraceFault>
+    requires version { version ≢ TraceVersion.One }
     requires each { length rows.now ≡ length end.now.kernel.config.axes }
     ensures { Writes (record { count = K.count out.old; told = K.told out.old })
         (record { count = K.count out.new; told = K.told out.new })

@@ -1,8 +1,8 @@
 -- The machine of a job in Structured Text is one before version 3.
 -- for: read_st_machine
-use Rattle.std.specs.Prelude.{◌≡◌, ◌<◌, ◌≤◌, ℕ, true, false, nat_lt, Option, Result, Ok, Err, List}
+use Rattle.std.specs.Prelude.{◌≡◌, ◌<◌, ◌≤◌, refl, ℕ, Option, List}
 use Rattle.std.proofs.Common.{inl, inr, subst}
-use Rattle.std.proofs.lemmas.Bool.{ltb-true}
+use Rattle.std.proofs.lemmas.Bool.{le-ltb, lt-ltb}
 use Rattle.job_ends.specs.Ends.{EndsBy}
 use Rattle.job_ends.specs.Machines as any
 use Rattle.job_ends.specs.Plans.{refused_plan}
@@ -17,10 +17,14 @@ use Rattle.st_job.specs.Machines.{GivesMachine, NoMachine, st_machine_of}
 
 -- a machine before version 3 is taken
 pub taken : (told : Option FileMap) (name : List ℕ) (m : Machine) → any.GivesMachine told name m →
-    nat_lt (number_of m.version) 3 ≡ true → GivesMachine told name m
+    number_of m.version < 3 → GivesMachine told name m
 unfolding st_machine_of
-taken told name m g before =
-    record { text = g.text; is_text = g.is_text; read = rw (g.read, before) refl; means = g.means }
+taken told name m g before = record {
+  text = g.text;
+  is_text = g.is_text;
+  read = rw (g.read, lt-ltb (number_of m.version) 3 before) refl;
+  means = g.means;
+}
 
 -- none is none
 pub none : (told : Option FileMap) (rose : Type 0) (name : List ℕ) (old new : Output) (s : Status) →
@@ -38,7 +42,7 @@ none told rose name old new s (inr r) = inr (record {
 -- one of version 3 is refused
 pub later : (told : Option FileMap) (rose : Type 0) (name : List ℕ) (m : Machine)
     (old old1 new : Output) (s : Status) → any.GivesMachine told name m →
-    nat_lt (number_of m.version) 3 ≡ false → old1 ≡ old →
+    3 ≤ number_of m.version → old1 ≡ old →
     EndsBy old1 new (refused_plan 1 name (refused_at 0 out_of_range)) s →
     NoMachine told rose name old new s
 unfolding st_machine_of
@@ -46,6 +50,6 @@ later told rose name m old old1 new s g other same ends = inr (record {
   text = g.text;
   is_text = g.is_text;
   refused = refused_at 0 out_of_range;
-  read = rw (g.read, other) refl;
+  read = rw (g.read, le-ltb (number_of m.version) 3 other) refl;
   ends = subst (λ o. EndsBy o new (refused_plan 1 name (refused_at 0 out_of_range)) s) same ends;
 })

@@ -4,7 +4,6 @@ use Rattle.std.specs.Prelude.{ℕ, nat_lt, if◌then◌else◌, Option, Result, 
 use Rattle.job_ends.specs.Files.{GivesReading, NoReading}
 use Rattle.job_ends.specs.Machines.{most_bytes}
 use Rattle.job_ends.specs.declared.status.Status.{Status}
-use Rattle.line_text.specs.Reading.{◌>>=◌}
 use Rattle.machine_config.specs.Configured.{Configures}
 use Rattle.machine_config.specs.Reading.{machine_of, refused_at}
 use Rattle.machine_config.specs.RuleNumbers.{out_of_range}
@@ -15,12 +14,14 @@ use Rattle.outside.specs.Told.{FileMap}
 use Rattle.trace_text.specs.writing.Writes.{Output}
 
 -- a machine of version 3 is refused at the top of its configuration: its version is out of range
-abbrev pub before_three : Machine → Result Machine TextRefused
-before_three m = if nat_lt (number_of m.version) 3 then Ok m else Err (refused_at 0 out_of_range)
+abbrev pub before_three : Result Machine TextRefused → Result Machine TextRefused
+before_three (Err refused) = Err refused
+before_three (Ok m) =
+    if nat_lt (number_of m.version) 3 then Ok m else Err (refused_at 0 out_of_range)
 
 -- the machine that a text configures
 unfoldable pub st_machine_of : List ℕ → Result Machine TextRefused
-st_machine_of text = machine_of text >>= before_three
+st_machine_of text = before_three (machine_of text)
 
 -- the first file configures this machine, or gives none
 abbrev pub GivesMachine : Option FileMap → List ℕ → Machine → Type 0

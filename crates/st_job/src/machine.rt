@@ -38,10 +38,14 @@ pub fn read_st_machine<F: Files, K: Sink>(
     ensures told { F.told files.new ≡ F.told files.old }
     ensures kept { OnOk result (F.count files.new ≡ F.count files.old) }
 {
-    let machine = read_machine(alloc, name, files, out)?;
-    if machine.version.number() < 3 {
-        Ok(machine)
-    } else {
-        Err(say_refused(alloc, 1, name, &LATER, out))
+    match read_machine(alloc, name, files, out) {
+        Ok(machine) => {
+            if machine.version.number() < 3 {
+                Ok(machine)
+            } else {
+                Err(say_refused(alloc, 1, name, &LATER, out))
+            }
+        }
+        Err(status) => Err(status),
     }
 }
