@@ -1,0 +1,4 @@
+pub mod Elementary
+pub mod Functions
+pub mod Motion
+pub mod Standard
