@@ -1,2 +1,5 @@
+mod Exact
+mod Found
 mod ItemLemmas
+mod Leads
 mod Runs

@@ -1,5 +1,5 @@
 -- Where tokens lead a reader: an item that ends leads on, and one that has stopped stands still.
--- for: advance, lead
+-- for: advance, lead, read_tree
 use Rattle.std.proofs.Common.{◌≡◌, ◌∙◌, ℕ, true, List, [], ◌∷◌, Option, Some, None, refl, sym, ap, drop, slice_get}
 use Rattle.std.specs.Prelude.{is_some}
 use Rattle.iec_grammar.specs.Lines.{passes}
@@ -25,7 +25,7 @@ passes_on p item items s new before part e row is h =
     same ∙ sym led ∙ sym (λ i. advanced p (e i) s) ∙ h
 
 -- one that has stopped
-stays : (s : Stand) (tokens : List Placed) → is_some s.refused ≡ true → run s tokens ≡ s
+pub stays : (s : Stand) (tokens : List Placed) → is_some s.refused ≡ true → run s tokens ≡ s
 unfolding step
 stays s [] stop = refl
 stays s (p ∷ tokens) stop =

@@ -5,7 +5,7 @@ use Rattle.iec_grammar.specs.Lines.{Line, takes, passes, refuses}
 use Rattle.iec_grammar.specs.declared.item.Item.TheVariants as item
 use Rattle.iec_tokens.specs.declared.token.Sign.TheVariants as sign
 use Rattle.iec_tokens.specs.declared.token.Token.{Token}
-use Rattle.iec_tokens.specs.declared.token.Token.TheVariants.{Name, Word, Sign, End}
+use Rattle.iec_tokens.specs.declared.token.Token.TheVariants.{Name, Word, Sign}
 use Rattle.iec_tokens.specs.declared.token.Word.TheVariants as word
 use Rattle.iec_tree.specs.declared.node.Part.TheVariants as part
 use Rattle.iec_tree.specs.declared.section.Section.TheVariants as section
@@ -26,8 +26,7 @@ file _ = refuses
 abbrev pub programs : Token → Line
 programs (Word word.Program) = takes (Some part.Program)
     (item.Name ∷ item.Sections ∷ item.Statements false ∷ item.EndProgram ∷ item.Programs ∷ [])
-programs End = takes (Some part.End) []
-programs _ = refuses
+programs _ = passes None
 
 abbrev pub end_program : Token → Line
 end_program (Word word.EndProgram) = takes (Some part.ProgramEnd) []

@@ -8,6 +8,7 @@ pub mod Lines
 pub mod Piles
 pub mod Places
 pub mod Reading
+pub mod Readings
 pub mod Statements
 pub mod Table
 pub mod Told

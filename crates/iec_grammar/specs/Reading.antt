@@ -9,9 +9,10 @@ use Rattle.iec_grammar.specs.declared.item.Item.TheVariants.{File}
 use Rattle.iec_tokens.specs.Tokens.{tokens_of}
 use Rattle.iec_tokens.specs.declared.token.Placed.{Placed}
 use Rattle.iec_tokens.specs.declared.token.Token.{Token}
-use Rattle.iec_tokens.specs.declared.token.Token.TheVariants.{TooMany, Wrong}
+use Rattle.iec_tokens.specs.declared.token.Token.TheVariants.{End, TooMany, Wrong}
 use Rattle.iec_tree.specs.declared.node.Node.{Node}
 use Rattle.iec_tree.specs.declared.node.Part.{Part}
+use Rattle.iec_tree.specs.declared.node.Part.TheVariants as part
 use Rattle.line_text.specs.declared.reader.LineRefused.{LineRefused}
 
 -- where a reader stands: what it expects, the nearest first; what is counted; the nodes so far; and
@@ -59,9 +60,14 @@ led_by (passes part) p s next = next (passed part p.line s)
 led_by refuses p s next = stopped p.line (rule_of p.token) s
 led_by misnamed p s next = stopped s.counts.begun 2 s
 
+-- a token where nothing more is expected: the text ends, or it doesn't fit
+abbrev pub ended : Token → ℕ → Stand → Stand
+ended End line s = with_node part.End line s
+ended t line s = stopped line (rule_of t) s
+
 -- a token where these items are expected
 abbrev pub advanced : Placed → List Item → Stand → Stand
-advanced p [] s = stopped p.line (rule_of p.token) (record s { expected = [] })
+advanced p [] s = ended p.token p.line (record s { expected = [] })
 advanced p (item ∷ items) s =
     led_by (row_of item p.token) p (record s { expected = items }) (advanced p items)
 

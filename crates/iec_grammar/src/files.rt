@@ -60,8 +60,7 @@ pub fn programs(token: &Token) -> Row
                 Item::Programs,
             ],
         ),
-        Token::End => take(Part::End, &[]),
-        _ => Row::Refuses,
+        _ => Row::Passes(None),
     }
 }
 

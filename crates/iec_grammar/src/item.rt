@@ -9,7 +9,7 @@ pub enum Item {
     // ---- files
     /// Enumerations, globals and the first program.
     File,
-    /// Further programs, or the text's end.
+    /// Further programs, or none.
     Programs,
     Sections,
     EndProgram,

@@ -105,8 +105,21 @@ impl Reader {
                 }
             }
         }
-        self.stop(placed.line, rule_of(&placed.token));
-        Ok(())
+        self.end(placed)
+    }
+
+    // Takes a token where nothing more is expected.
+    fn end(&mut self, placed: &Placed) -> Result<(), OutOfMemory>
+        ensures { OnOk result (self.new ≡
+            spec.ended placed.now.token placed.now.line self.old) }
+    {
+        match placed.token {
+            Token::End => self.add(Part::End, placed.line),
+            _ => {
+                self.stop(placed.line, rule_of(&placed.token));
+                Ok(())
+            }
+        }
     }
 
     // Stops by a rule that this line breaks.

@@ -7,6 +7,7 @@
 
 mod elementary;
 mod function;
+mod laws;
 mod motion;
 mod node;
 mod operator;
@@ -16,6 +17,7 @@ mod standard;
 pub use elementary::{Elementary, elementary_named};
 pub use function::{Function, function_named};
 pub use iec_tokens::{Name, Number};
+pub use laws::names_are_read_back;
 pub use motion::{Motion, motion_named};
 pub use node::{Node, Part};
 pub use operator::Operator;
