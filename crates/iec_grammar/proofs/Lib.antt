@@ -1,4 +1,5 @@
 mod Exact
+mod Final
 mod Found
 mod ItemLemmas
 mod Leads

@@ -51,3 +51,9 @@ IsTreeOf text nodes = IsRead (File ∷ []) none_counted (tokens_of text) nodes
 abbrev pub IsExact : List ℕ → Outcome → Type 0
 IsExact text o = (nodes : List Node) →
     IsTreeOf text nodes ↔ ((o.refused ≡ None) × (o.nodes ≡ nodes))
+
+-- tokens begin those of a text of the grammar
+pub record BeginsText (front : List Placed) : Type 0 where
+  pub more : List Placed
+  pub nodes : List Node
+  pub is : IsRead (File ∷ []) none_counted (front ++ more) nodes

@@ -9,6 +9,7 @@ mod declarations;
 mod expressions;
 mod files;
 mod item;
+mod laws;
 mod pile;
 mod places;
 mod reader;
@@ -16,8 +17,11 @@ mod reading;
 mod row;
 mod statements;
 mod table;
+#[cfg(test)]
+mod tests;
 
 pub use item::{Item, Level};
+pub use laws::faults_are_final;
 pub use reading::{Reading, read_tree};
 pub use row::{Items, Row};
 pub use table::row_of;
