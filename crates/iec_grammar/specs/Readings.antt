@@ -27,17 +27,22 @@ node p line = record { part = p; line = line }
 -- these items stand for these tokens, up to the text's end, and the tokens are read as these nodes,
 -- where so much is counted before them
 pub data IsRead : List Item → Counts → List Placed → List Node → Type 0 where
+  -- the text ends, and nothing more is expected
   ends : {c : Counts} {line : ℕ} → IsRead [] c (at End line ∷ []) (node part.End line ∷ [])
+  -- the first token is taken, and says nothing by itself
   skips : {item : Item} {items more : List Item} {c : Counts} {t : Token} {line : ℕ}
       {tokens : List Placed} {nodes : List Node} → row_of item t ≡ takes None more →
       IsRead (more ++ items) c tokens nodes → IsRead (item ∷ items) c (at t line ∷ tokens) nodes
+  -- it is taken as a part, and no bound is broken
   takes_as : {item : Item} {items more : List Item} {c d : Counts} {t : Token} {line : ℕ}
       {tokens : List Placed} {nodes : List Node} {p : Part} → row_of item t ≡ takes (Some p) more →
       counted c p line ≡ Ok d → IsRead (more ++ items) d tokens nodes →
       IsRead (item ∷ items) c (at t line ∷ tokens) (node p line ∷ nodes)
+  -- the first item ends in front of the token
   leaves : {item : Item} {items : List Item} {c : Counts} {t : Token} {line : ℕ}
       {tokens : List Placed} {nodes : List Node} → row_of item t ≡ passes None →
       IsRead items c (at t line ∷ tokens) nodes → IsRead (item ∷ items) c (at t line ∷ tokens) nodes
+  -- it ends there as a part
   ends_as : {item : Item} {items : List Item} {c : Counts} {t : Token} {line : ℕ}
       {tokens : List Placed} {nodes : List Node} {p : Part} → row_of item t ≡ passes (Some p) →
       IsRead items c (at t line ∷ tokens) nodes →
