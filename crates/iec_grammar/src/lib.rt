@@ -20,8 +20,5 @@ mod table;
 #[cfg(test)]
 mod tests;
 
-pub use item::{Item, Level};
 pub use laws::faults_are_final;
 pub use reading::{Reading, read_tree};
-pub use row::{Items, Row};
-pub use table::row_of;
