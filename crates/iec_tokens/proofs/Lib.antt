@@ -1,3 +1,4 @@
+mod Endings
 mod NameLemmas
 mod Numbers
 mod Passed

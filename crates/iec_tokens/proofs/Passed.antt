@@ -1,7 +1,7 @@
 -- The tokens after a lexeme, whose bytes are gone over one after another or all at once.
 -- for: next
 use Rattle.std.proofs.Common.{◌≡◌, ℕ, zero, suc, ◌+◌, ◌-◌, ◌≤◌, List, [], ◌∷◌, refl, sym, ◌∙◌, ap, take, drop, length, arith}
-use Rattle.std.specs.Prelude.{min, Option, Some, None}
+use Rattle.std.specs.Prelude.{min, Some, None}
 use Rattle.iec_tokens.specs.Left.{stand_after, tokens_after}
 use Rattle.iec_tokens.specs.Lexemes.{lexeme_of}
 use Rattle.iec_tokens.specs.Tokens.{stand_behind, tokens_from, with_token}

@@ -1,6 +1,6 @@
 -- How digits are written, and the numbers that they write. IEC 61131-3: a `_` may stand between
 -- two digits.
-use Rattle.std.specs.Prelude.{ℕ, zero, suc, ◌+◌, ◌-◌, ◌*◌, ◌^◌, ◌==◌, nat_le, min, Bool, false, not, ◌&&◌, ◌||◌, if◌then◌else◌, List, [], ◌∷◌, take}
+use Rattle.std.specs.Prelude.{ℕ, suc, ◌+◌, ◌-◌, ◌*◌, ◌^◌, ◌==◌, nat_le, min, Bool, false, ◌&&◌, ◌||◌, if◌then◌else◌, List, [], ◌∷◌, take}
 use Rattle.iec_tokens.specs.Bytes.{is_digit}
 use Rattle.iec_tokens.specs.declared.digits.Radix.{Radix}
 use Rattle.iec_tokens.specs.declared.digits.Radix.TheVariants.{Decimal, Hexadecimal}

@@ -1,5 +1,5 @@
 -- What is left of a text while its tokens are read.
-use Rattle.std.specs.Prelude.{ℕ, ◌<◌, ◌+◌, ◌^◌, Option, Some, None, IfSome, List, [], ◌∷◌, drop, length, take}
+use Rattle.std.specs.Prelude.{ℕ, ◌<◌, ◌+◌, ◌^◌, IfSome, List, [], ◌∷◌, drop, length, take}
 use Rattle.std.specs.Option.{option_map_or}
 use Rattle.iec_tokens.specs.Tokens.{stand_behind, tokens_from}
 use Rattle.iec_tokens.specs.declared.token.Placed.{Placed}

@@ -1,6 +1,7 @@
 pub mod Bytes
 pub mod Comments
 pub mod Digits
+pub mod Ended
 pub mod Left
 pub mod Lexemes
 pub mod NameBytes

@@ -4,7 +4,7 @@ use Rattle.line_text.specs.Lines.{is_end}
 use Rattle.iec_tokens.specs.Lexemes.{lexeme_of}
 use Rattle.iec_tokens.specs.declared.token.Placed.{Placed}
 use Rattle.iec_tokens.specs.declared.token.Token.{Token}
-use Rattle.iec_tokens.specs.declared.token.Token.TheVariants.{Name, Word, Number, Sign, End, Wrong, TooMany}
+use Rattle.iec_tokens.specs.declared.token.Token.TheVariants.{End, Wrong, TooMany}
 use Rattle.iec_tokens.specs.declared.tokens.Stand.{Stand}
 
 -- the line after a byte

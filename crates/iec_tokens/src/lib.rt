@@ -16,7 +16,7 @@ mod token;
 mod tokens;
 mod word;
 
-pub use laws::words_are_read_back;
+pub use laws::{tokens_end_once, words_are_read_back};
 pub use name::{LONGEST_NAME, Name, is_name};
 pub use sign::{SIGNS, sign_text};
 pub use token::{Number, Placed, Sign, Token, Word};

@@ -1,5 +1,5 @@
 -- The lexeme at the front is gone over.
-use Rattle.std.proofs.Common.{◌≡◌, ◌≤◌, length, arith}
+use Rattle.std.proofs.Common.{◌≤◌, length, arith}
 use Rattle.std.proofs.lemmas.Grind.{common_steps}
 use Rattle.iec_tokens.proofs.Passed.{gap_passed, token_passed}
 use Rattle.iec_tokens.proofs.tokens.find_token.Goals as goal

@@ -1,0 +1,6 @@
+mod Exact
+mod Final
+mod Found
+mod ItemLemmas
+mod Leads
+mod Runs

@@ -1,0 +1,14 @@
+pub mod Constants
+pub mod Counts
+pub mod Declarations
+pub mod Expressions
+pub mod Files
+pub mod ItemLists
+pub mod Lines
+pub mod Piles
+pub mod Places
+pub mod Reading
+pub mod Readings
+pub mod Statements
+pub mod Table
+pub mod Told

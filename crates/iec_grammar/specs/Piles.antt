@@ -1,0 +1,7 @@
+-- Piles, from their top.
+use Rattle.std.specs.Prelude.{◌≡◌, Option, Some, None, List, [], ◌∷◌}
+
+-- what was put on last is taken off, where there is something
+abbrev pub Pops : {T : Type 0} → List T → Option T → List T → Type 0
+Pops old None new = (old ≡ []) × (new ≡ [])
+Pops old (Some item) new = old ≡ item ∷ new
