@@ -1,5 +1,5 @@
 -- Items that are kept in the front of a room, and others behind them.
--- for: of
+-- for: read_tree
 use Rattle.std.proofs.Common.{◌≡◌, ◌++◌, ◌∙◌, ◌+◌, ℕ, List, refl, ap, take, drop, length, arith, length-append}
 use Rattle.std.proofs.Math.Seq.{take-append_seam}
 use Rattle.std.proofs.lemmas.Slice.{take-put_mid}

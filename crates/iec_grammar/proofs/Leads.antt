@@ -1,5 +1,5 @@
 -- Tokens that have a reading lead a reader to it.
--- for: faults_are_final, read_tree
+-- for: read_tree, faults_are_final
 use Rattle.std.proofs.Common.{◌≡◌, ◌∙◌, List, [], ◌∷◌, ◌++◌, None, refl, ap, append_assoc}
 use Rattle.std.specs.Prelude.{Ok}
 use Rattle.iec_grammar.specs.Counts.{counted}

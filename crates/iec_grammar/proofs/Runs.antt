@@ -1,5 +1,5 @@
 -- Where tokens lead a reader: an item that ends leads on, and one that has stopped stands still.
--- for: advance, faults_are_final, lead and others
+-- for: read_tree, faults_are_final
 use Rattle.std.proofs.Common.{◌≡◌, ◌∙◌, ℕ, true, List, [], ◌∷◌, Option, Some, None, refl, sym, ap, drop, slice_get}
 use Rattle.std.specs.Prelude.{is_some}
 use Rattle.iec_grammar.specs.Lines.{passes}

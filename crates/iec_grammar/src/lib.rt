@@ -17,8 +17,6 @@ mod reading;
 mod row;
 mod statements;
 mod table;
-#[cfg(test)]
-mod tests;
 
 pub use laws::faults_are_final;
 pub use reading::{Reading, read_tree};

@@ -15,6 +15,7 @@ mod blends;
 mod cams;
 mod counts;
 mod followers;
+mod grammar;
 mod lines;
 mod moves;
 mod queues;

@@ -1,5 +1,5 @@
 -- The machine of a job in Structured Text is one before version 3.
--- for: read_st_machine
+-- for: st_files
 use Rattle.std.specs.Prelude.{◌≡◌, ◌<◌, ◌≤◌, refl, ℕ, Option, List}
 use Rattle.std.proofs.Common.{inl, inr, subst}
 use Rattle.std.proofs.lemmas.Bool.{le-ltb, lt-ltb}
@@ -7,7 +7,7 @@ use Rattle.job_ends.specs.Ends.{EndsBy}
 use Rattle.job_ends.specs.Machines as any
 use Rattle.job_ends.specs.Plans.{refused_plan}
 use Rattle.job_ends.specs.declared.status.Status.{Status}
-use Rattle.machine_config.specs.Reading.{machine_of, refused_at}
+use Rattle.machine_config.specs.Reading.{refused_at}
 use Rattle.machine_config.specs.RuleNumbers.{out_of_range}
 use Rattle.machine_config.specs.declared.machine.Machine.{Machine}
 use Rattle.motion_history.specs.Versions.{number_of}

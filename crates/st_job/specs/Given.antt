@@ -1,6 +1,6 @@
 -- What the two files of the job give. This project's profile.
 use Rattle.std.specs.Prelude.{◌≡◌, ℕ, Option, Result, Ok, Err, List}
-use Rattle.job_ends.specs.Files.{GivesReading, IsText, NoBoth, NoReading}
+use Rattle.job_ends.specs.Files.{IsText, NoBoth, NoReading}
 use Rattle.job_ends.specs.Machines.{most_bytes}
 use Rattle.job_ends.specs.declared.status.Status.{Status}
 use Rattle.machine_config.specs.Configured.{Configures}

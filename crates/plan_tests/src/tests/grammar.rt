@@ -1,6 +1,6 @@
 // What texts are read as, and where damaged ones are refused.
 
-use crate::read_tree;
+use iec_grammar::read_tree;
 use iec_tree::{Operator, Part};
 use std::alloc::Global;
 
