@@ -1,9 +1,9 @@
 """Warnings about the values of calls: positions that are left out, moves and rates that are tiny,
 numbers that wrapped."""
 
-from collections.abc import Iterator
+from collections.abc import Iterator, Sequence
 
-from motion_tools.blocks import ENDLESS, MOVES
+from motion_tools.blocks import ENDLESS, MOVES, RELATIVE
 from motion_tools.explain.findings import Finding
 from motion_tools.explain.history import Command
 from motion_tools.explain.run import Run, warning
@@ -48,10 +48,7 @@ def tiny(run: Run) -> Iterator[Finding]:
         positions = command.call.positions
         if command.block.kind not in MOVES or not positions or command.result.startswith("Error"):
             continue
-        ways = {}
-        for name, position in zip(command.start, positions):
-            begin = 0 if command.block.kind == "MoveRelative" else command.start[name]
-            ways[name] = abs(position - begin)
+        ways = ways_of(command, positions)
         if any(ways.values()) and all(way * THOUSANDTH < run.history.axes[name].reach
                                       for name, way in ways.items()):
             shown = ", ".join(f"{name} {run.units.text(name, way)}" for name, way in ways.items())
@@ -62,6 +59,15 @@ def tiny(run: Run) -> Iterator[Finding]:
                 found.cure = (f"pos is in thousandths of the user unit: pos := 200 is 0.2 {unit}, "
                               f"and 200 {unit} are pos := 200000")
             yield run.at_call(found, command.block.name, command.begun, command.call)
+
+
+def ways_of(command: Command, positions: Sequence[int]) -> dict[str, int]:
+    """How far the axes of a move go: its distance where it is relative, but for an additive one that
+    doesn't wait, whose way is that to its target."""
+    is_additive = command.block.kind == "MoveAdditive" and command.call.mode == "aborting"
+    if command.block.kind in RELATIVE and not is_additive:
+        return {name: abs(distance) for name, distance in zip(command.start, positions)}
+    return {name: abs(target - command.start[name]) for name, target in command.target.items()}
 
 
 def slow(run: Run) -> Iterator[Finding]:

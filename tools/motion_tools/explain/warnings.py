@@ -10,6 +10,8 @@ from motion_tools.explain.run import Run, warning
 from motion_tools.explain.walk import mode_is_given
 
 FOLLOWERS = ("GearIn", "CamIn")
+ON_PURPOSE = ("Halt", "Stop", "GroupHalt", "GroupStop", "Home",
+              "MoveAdditive")       # an additive move adds its distance to the one that it aborts
 THOUSANDTH = 1000
 TWENTIETH = 20
 STARTS, SOON = 20, 10   # more starts than these, each within these cycles after the one before
@@ -96,7 +98,7 @@ def aborted(run: Run) -> Iterator[Finding]:
         if by is None or command.block.kind not in MOVES or command.result == "Done":
             continue
         other = run.history.blocks[by.block].block
-        if other.kind in ("Halt", "Stop", "GroupHalt", "GroupStop", "Home"):
+        if other.kind in ON_PURPOSE:
             continue
         if other.task == command.block.task and not mode_is_given(run.text, other.name):
             cycle = command.ended or command.begun
