@@ -179,9 +179,21 @@ class Runs(unittest.TestCase):
 
     def test_what_an_additive_move_counts_from(self):
         for name, targets in (("at_rest", [4, None, 14]), ("waiting", [4, 8, 0]),
-                              ("blended", [20, 30, 40]), ("refused", [60, 10])):
+                              ("blended", [20, 30, 40]), ("refused", [60, 10]),
+                              ("after_a_velocity", [None, 42, 34, 46, None, 26, 36])):
             found = [command.target.get("X") for command in self.additive(name)[1]]
             self.assertEqual(found, targets, name)
+
+    def test_a_small_additive_move_that_replaces_another_is_meant(self):
+        trace = EXAMPLES / "print-mark" / "print-mark.trace"
+        self.assertNotIn("warning", call(main, "--of", trace)[1])
+        text = trace.read_text()
+        with tempfile.TemporaryDirectory() as folder:
+            file = pathlib.Path(folder) / "other.trace"
+            file.write_text(text.replace("main,MoveAdditive,", "main,MoveRelative,"))
+            output = call(main, "--of", file)[1]
+        self.assertIn("warning tiny-move", output)
+        self.assertIn("warning aborted-by-own-task", output)
 
     def test_a_rejected_additive_move_names_what_it_counts_from(self):
         self.assertIn("D (MoveAdditive on X): 50 units from 60 units leads beyond the limits of X, "

@@ -242,6 +242,26 @@ class Laws(unittest.TestCase):
             axes = axes_of(iter(text.replace(old, new).splitlines(True)))
             self.assertTrue(axes["X"].broken, old)
 
+    def test_what_an_additive_move_counts_from_is_looked_at(self):
+        text = (ROOT / "examples" / "print-mark" / "print-mark.trace").read_text()
+        for old, broken in (("call,CORRECT,1,120,", "not at 10121 but 10120 by 0"),
+                            ("call,CORRECT,1,-80,", "not at 20041 but 20040 by 0")):
+            self.assertIn(old, text)
+            name, block, execute, distance, _ = old.split(",")
+            new = f"{name},{block},{execute},{int(distance) + 1},"
+            axis = axes_of(iter(text.replace(old, new).splitlines(True)))["WEB"]
+            self.assertEqual(axis.broken[:1], [broken])
+
+    def test_an_additive_move_is_left_out_where_another_command_may_be_active(self):
+        call = Call("M", True, (20,), 6, 2, 2, 0, "aborting", None, "BA", 0)
+        axis = Axis(AxisOf(-100, 100, 10, 10, 10, 12, True))
+        axis.call(call, "MoveAbsolute", True)
+        axis.call(call._replace(outputs="B", mode="buffered"), "MoveRelative", True)
+        axis.row(RowOf(18, "DiscreteMotion", True))
+        self.assertEqual(axis.course_of(call, "MoveAdditive").target, 40)
+        axis.row(RowOf(20, "DiscreteMotion", True))
+        self.assertIsNone(axis.course_of(call, "MoveAdditive"))
+
     def test_a_blended_move_that_hangs_is_found(self):
         call = Call("M", True, (20,), 6, 2, 2, 0, "blendingLow", None, "B", 0)
         first = Course(call, "MoveAbsolute", 12, 6)

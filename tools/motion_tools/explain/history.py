@@ -297,23 +297,27 @@ class History:
             self.settle(on, commands)
 
     def take_over(self, on: str, commands: list[Command]) -> None:
-        """Ends the active command where the one that waits next takes over, and lets that begin: a
-        relative move after one without a target counts from there."""
+        """Ends the active command where the one that waits next takes over, and lets that begin; so
+        with one command without an end after another."""
         live = [command for command in commands if command.is_live()]
-        if len(live) < 2 or not self.gives_way(on, *live[:2]):
-            return
-        first, second = live[:2]
-        first.ended, first.end = self.cycles, self.positions(on)
-        second.active_from, second.start = self.cycles, self.positions(on)
-        if second.block.kind in RELATIVE and not first.target:
-            second.target = moved(second.start, second.call.positions or ())
+        while len(live) > 1 and self.gives_way(on, live):
+            first, second, *_ = live
+            first.ended, first.end = self.cycles, self.positions(on)
+            second.active_from, second.start = self.cycles, self.positions(on)
+            del live[0]
+            if not first.target:
+                self.count_from(second.start, live)
+            if first.block.kind not in ENDLESS:
+                return
 
-    def gives_way(self, on: str, first: Command, second: Command) -> bool:
-        """Whether an active command has given way to the one that waits next: a move at rest at its
+    def gives_way(self, on: str, live: list[Command]) -> bool:
+        """Whether the first command has given way to the one that waits next: a move at rest at its
         target, or past it where the next one blends; a Halt at rest; one without an end where the
         axis has gone over to a move."""
+        first, second, *_ = live
         if first.block.kind in ENDLESS:
-            return second.block.kind in MOVES and self.states.get(on) == "DiscreteMotion"
+            return (self.states.get(on) == "DiscreteMotion"
+                    and any(command.block.kind in MOVES for command in live))
         rests = all(self.axes[name].last_step[0] == 0 for name in self.axes_of(on))
         if not first.target:
             return first.block.kind == "Halt" and rests
@@ -322,6 +326,13 @@ class History:
         if str(second.call.mode).startswith("blending"):
             return all(way >= 0 if goes_up else way <= 0 for way, goes_up in ways)
         return rests and all(way == 0 for way, _ in ways)
+
+    def count_from(self, base: dict[str, int], commands: list[Command]) -> None:
+        """Gives relative moves their targets that begin one after another, from a place on."""
+        for command in commands:
+            if command.block.kind not in RELATIVE:
+                return
+            base = command.target = moved(base, command.call.positions or ())
 
     def note(self, name: str, state: str, error: int, before: dict[str, Row]) -> None:
         """The state of an axis or a group, and an error that is new."""

@@ -5,7 +5,7 @@ from collections.abc import Iterator, Sequence
 
 from motion_tools.blocks import ENDLESS, MOVES, RELATIVE
 from motion_tools.explain.findings import Finding
-from motion_tools.explain.history import Command
+from motion_tools.explain.history import Command, moved
 from motion_tools.explain.run import Run, warning
 from motion_tools.units import decimal
 
@@ -48,6 +48,8 @@ def tiny(run: Run) -> Iterator[Finding]:
         positions = command.call.positions
         if command.block.kind not in MOVES or not positions or command.result.startswith("Error"):
             continue
+        if is_correction(command, positions):
+            continue
         ways = ways_of(command, positions)
         if any(ways.values()) and all(way * THOUSANDTH < run.history.axes[name].reach
                                       for name, way in ways.items()):
@@ -62,12 +64,16 @@ def tiny(run: Run) -> Iterator[Finding]:
 
 
 def ways_of(command: Command, positions: Sequence[int]) -> dict[str, int]:
-    """How far the axes of a move go: its distance where it is relative, but for an additive one that
-    doesn't wait, whose way is that to its target."""
-    is_additive = command.block.kind == "MoveAdditive" and command.call.mode == "aborting"
-    if command.block.kind in RELATIVE and not is_additive:
-        return {name: abs(distance) for name, distance in zip(command.start, positions)}
-    return {name: abs(target - command.start[name]) for name, target in command.target.items()}
+    """How far the axes of a move go, of a relative one by its distance."""
+    is_relative = command.block.kind in RELATIVE
+    return {name: abs(position - (0 if is_relative else command.start[name]))
+            for name, position in zip(command.start, positions)}
+
+
+def is_correction(command: Command, positions: Sequence[int]) -> bool:
+    """Whether an additive move has added its distance to a move under way, as small ones do."""
+    return (command.block.kind == "MoveAdditive" and command.call.mode == "aborting"
+            and [*command.target.values()] != [*moved(command.start, positions).values()])
 
 
 def slow(run: Run) -> Iterator[Finding]:

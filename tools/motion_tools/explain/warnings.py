@@ -10,8 +10,6 @@ from motion_tools.explain.run import Run, warning
 from motion_tools.explain.walk import mode_is_given
 
 FOLLOWERS = ("GearIn", "CamIn")
-ON_PURPOSE = ("Halt", "Stop", "GroupHalt", "GroupStop", "Home",
-              "MoveAdditive")       # an additive move adds its distance to the one that it aborts
 THOUSANDTH = 1000
 TWENTIETH = 20
 STARTS, SOON = 20, 10   # more starts than these, each within these cycles after the one before
@@ -98,7 +96,7 @@ def aborted(run: Run) -> Iterator[Finding]:
         if by is None or command.block.kind not in MOVES or command.result == "Done":
             continue
         other = run.history.blocks[by.block].block
-        if other.kind in ON_PURPOSE:
+        if other.kind in ("Halt", "Stop", "GroupHalt", "GroupStop", "Home"):
             continue
         if other.task == command.block.task and not mode_is_given(run.text, other.name):
             cycle = command.ended or command.begun
@@ -107,6 +105,8 @@ def aborted(run: Run) -> Iterator[Finding]:
                 found = warning(run, "aborted-by-itself", f"the Execute of {who} fell and rose "
                                 "again while its command was under way: the new command aborted "
                                 f"that one{where(run, command)}", cycle)
+            elif other.kind == "MoveAdditive":
+                continue        # it adds its distance to the move that it aborts
             else:
                 found = warning(run, "aborted-by-own-task", f"{who} was aborted by "
                                 f"{run.who(other.name)} of the same task{where(run, command)}",
