@@ -29,7 +29,8 @@ static const char third_config[] =
     "version = 3\ncycle_us = 1000\ncycles = 20\nentries = 40\n"
     "[[axis]]\nname = \"X\"\nlo = 0\nhi = 50\nvmax = 100\namax = 1000\nincrement = 1\nstart = 0\n";
 
-static const char third_program[] = "motion-program 3\ntask main\nblock MX MoveAbsolute X\nblock AX MoveAdditive X\n";
+static const char third_program[] =
+    "motion-program 3\ntask main\nblock MX MoveAbsolute X\nblock AX MoveAdditive X\n";
 
 static int faults;
 
@@ -118,6 +119,7 @@ static void versions(void)
         motion_block_row row = { 0, 0, 0, 0 };
         static mc_machine blocks;
         mc_setup s;
+        uint32_t code;
         memset(room, 7, sizeof room);
         mc_setup_begin(&s, room, size);
         mc_setup_task(&s, "main");
@@ -128,16 +130,16 @@ static void versions(void)
         want("the text", (uint64_t)memcmp(room, third_program, size < len ? size : len), 0);
         want("behind it", room[size < len ? size : len], 7);
         want("its number", additive.block, 1);
-        want("opened", mc_open(&blocks, &m, (const uint8_t *)third_config, sizeof third_config - 1, &s, &why),
-             size < len ? MOTION_NO_MEMORY : MOTION_OK);
+        code = mc_open(&blocks, &m, (const uint8_t *)third_config, sizeof third_config - 1, &s, &why);
+        want("opened", code, size < len ? MOTION_NO_MEMORY : MOTION_OK);
         if (size < len) continue;
         want("the block", motion_block_look(&m, additive.block, &row), MOTION_OK);
         want("its kind", row.kind, MOTION_MOVE_ADDITIVE);
         want("found", MC_MoveAdditive_find(&additive, &blocks, "AX"), MOTION_OK);
         want("called", MC_MoveAdditive_call(&additive, &blocks), MOTION_OK);
         want("closed", motion_close(&m), MOTION_OK);
-        want("version 2", mc_open(&blocks, &m, (const uint8_t *)config, sizeof config - 1, &s, &why),
-             MOTION_REFUSED);
+        code = mc_open(&blocks, &m, (const uint8_t *)config, sizeof config - 1, &s, &why);
+        want("version 2", code, MOTION_REFUSED);
         want("its line", why.line, 1);
         want("P", why.letter, 'P');
         want("2", why.number, 2);

@@ -205,7 +205,7 @@ class History:
         block.command = command
 
     def living(self, on: str) -> list[Command]:
-        """The commands of an axis or a group that nothing has ended so far, the active one first."""
+        """The commands of an axis or a group that nothing has ended, the active one first."""
         return [command for command in self.live.get(on, ()) if command.is_live()]
 
     def target_of(self, command: Command) -> dict[str, int]:
