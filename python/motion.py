@@ -283,7 +283,7 @@ class Drive:
 def program_of(tasks: Mapping[str, Iterable[tuple[str, str, str]]]) -> str:
     """The program of tasks with their blocks: of version 1, and of version 3 where a block has a kind
     that version 1 doesn't have."""
-    lines, version = [], 1
+    version, lines = 1, list[str]()
     for task, blocks in tasks.items():
         lines.append(f"task {task}")
         for name, kind, on in blocks:

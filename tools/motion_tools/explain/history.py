@@ -221,12 +221,12 @@ class History:
         """What a relative move counts from: where it waits, the target of the command before it; an
         additive one that doesn't wait, that of the active command; else, and where that one has no
         target, the setpoints."""
-        live, before = self.living(block.on), None
-        if live and call.mode != "aborting":
-            before = live[-1]
-        elif live and block.kind == "MoveAdditive":
-            before = live[0]
-        return {**self.positions(block.on), **(before.target if before else {})}
+        live = self.living(block.on)
+        if call.mode != "aborting":
+            before = live[-1:]
+        else:
+            before = live[:1] if block.kind == "MoveAdditive" else []
+        return {**self.positions(block.on), **(before[0].target if before else {})}
 
     def go_on(self, block: BlockHistory, call: Call) -> None:
         """A call with Execute true, as before: whether its inputs are others, and ignored. A call

@@ -73,7 +73,7 @@ def ways_of(command: Command, positions: Sequence[int]) -> dict[str, int]:
 def is_correction(command: Command, positions: Sequence[int]) -> bool:
     """Whether an additive move has added its distance to a move under way, as small ones do."""
     return (command.block.kind == "MoveAdditive" and command.call.mode == "aborting"
-            and [*command.target.values()] != [*moved(command.start, positions).values()])
+            and command.target != moved(command.start, positions))
 
 
 def slow(run: Run) -> Iterator[Finding]:
