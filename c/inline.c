@@ -1,6 +1,6 @@
 /* A test of the header's inline functions: names and texts as strings of C, tasks and blocks that are
- * added one by one, and pointers that are null. Silent where all is as expected. */
-#include "motion.h"
+ * added one by one, in each version, and pointers that are null. Silent where all is as expected. */
+#include "motion_blocks.h"
 
 #include <stdio.h>
 #include <string.h>
@@ -24,6 +24,14 @@ static const char config[] =
 static const char program[] =
     "motion-program 1\ntask main\nblock P Power X\nblock MX MoveAbsolute X\ntask other\nblock H Halt X\n";
 
+/* The same configuration in version 3. */
+static const char third_config[] =
+    "version = 3\ncycle_us = 1000\ncycles = 20\nentries = 40\n"
+    "[[axis]]\nname = \"X\"\nlo = 0\nhi = 50\nvmax = 100\namax = 1000\nincrement = 1\nstart = 0\n";
+
+static const char third_program[] =
+    "motion-program 3\ntask main\nblock MX MoveAbsolute X\nblock AX MoveAdditive X\n";
+
 static int faults;
 
 static void want(const char *what, uint64_t found, uint64_t wanted)
@@ -42,6 +50,11 @@ static void strings(void)
     want("is the header's", motion_same_version(), MOTION_OK);
     want("no text", motion_text_len(""), 0);
     want("a text", motion_text_len("MX"), 2);
+    want("the same", (uint64_t)motion_text_is("MX", "MX"), 1);
+    want("a longer one", (uint64_t)motion_text_is("MXY", "MX"), 0);
+    want("a shorter one", (uint64_t)motion_text_is("M", "MX"), 0);
+    want("another one", (uint64_t)motion_text_is("MY", "MX"), 0);
+    want("none at all", (uint64_t)motion_text_is("", ""), 1);
     want("open", motion_open_text(&m, machine, &why), MOTION_OK);
     want("block MX", motion_block_named(&m, "MX"), 2);
     want("block C", motion_block_named(&m, "C"), 1);
@@ -92,6 +105,47 @@ static void setups(void)
     }
 }
 
+/* A block of a kind that version 1 doesn't have makes the program one of version 3, in room of each size:
+ * it opens a machine of a configuration of version 3, and another configuration rejects it. */
+static void versions(void)
+{
+    static uint8_t room[200];
+    size_t size, len = sizeof third_program - 1;
+    for (size = 0; size < len + 2; size++) {
+        static MC_MoveAbsolute move;
+        static MC_MoveAdditive additive;
+        motion m = MOTION_NONE;
+        motion_refusal why = { 0, 0, 0 };
+        motion_block_row row = { 0, 0, 0, 0 };
+        static mc_machine blocks;
+        mc_setup s;
+        uint32_t code;
+        memset(room, 7, sizeof room);
+        mc_setup_begin(&s, room, size);
+        mc_setup_task(&s, "main");
+        MC_MoveAbsolute_add(&move, &s, "MX", "X");
+        want("the version before", room[15], size > 15 ? '1' : 7);
+        MC_MoveAdditive_add(&additive, &s, "AX", "X");
+        want("the length", s.text.len, len);
+        want("the text", (uint64_t)memcmp(room, third_program, size < len ? size : len), 0);
+        want("behind it", room[size < len ? size : len], 7);
+        want("its number", additive.block, 1);
+        code = mc_open(&blocks, &m, (const uint8_t *)third_config, sizeof third_config - 1, &s, &why);
+        want("opened", code, size < len ? MOTION_NO_MEMORY : MOTION_OK);
+        if (size < len) continue;
+        want("the block", motion_block_look(&m, additive.block, &row), MOTION_OK);
+        want("its kind", row.kind, MOTION_MOVE_ADDITIVE);
+        want("found", MC_MoveAdditive_find(&additive, &blocks, "AX"), MOTION_OK);
+        want("called", MC_MoveAdditive_call(&additive, &blocks), MOTION_OK);
+        want("closed", motion_close(&m), MOTION_OK);
+        code = mc_open(&blocks, &m, (const uint8_t *)config, sizeof config - 1, &s, &why);
+        want("version 2", code, MOTION_REFUSED);
+        want("its line", why.line, 1);
+        want("P", why.letter, 'P');
+        want("2", why.number, 2);
+    }
+}
+
 /* Each pointer that is null. */
 static void pointers(void)
 {
@@ -139,6 +193,7 @@ int main(void)
 {
     strings();
     setups();
+    versions();
     pointers();
     return faults != 0;
 }

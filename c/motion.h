@@ -437,6 +437,16 @@ static inline uint32_t motion_task_named(motion *m, const char *name)
     return motion_task(m, (const uint8_t *)name, motion_text_len(name));
 }
 
+/* Whether two texts are the same. */
+static inline int motion_text_is(const char *text, const char *other)
+{
+    while (*text && *text == *other) {
+        text++;
+        other++;
+    }
+    return *text == *other;
+}
+
 /* The tasks and blocks of a machine, added one by one before it is opened by a configuration:
  *
  *     uint8_t room[1000];
@@ -448,7 +458,9 @@ static inline uint32_t motion_task_named(motion *m, const char *name)
  *
  * They are lines of a program in `room`, 700 bytes for ten blocks; a name or a kind that breaks a rule
  * is reported when the machine is opened, by its line. A blank or a line end in one isn't looked for: it is
- * read as the end of a word or of a line. Blocks and tasks count from 0 in their order. */
+ * read as the end of a word or of a line. Blocks and tasks count from 0 in their order. The program is of
+ * version 1, and of version 3 where a block was added whose kind version 1 doesn't have: MoveAdditive. It
+ * then wants a configuration of version 3, else it is rejected by P2 in its line 1. */
 typedef struct motion_setup {
     uint8_t *text;
     size_t room;
@@ -472,6 +484,13 @@ static inline void motion_setup_begin(motion_setup *s, uint8_t *text, size_t roo
     motion_setup_put(s, "motion-program 1\n");
 }
 
+/* Makes the program one of version 3: the digit stands after `motion-program `. */
+static inline void motion_setup_third(motion_setup *s)
+{
+    const size_t at = sizeof "motion-program " - 1;
+    if (at < s->room) s->text[at] = '3';
+}
+
 static inline void motion_setup_task(motion_setup *s, const char *name)
 {
     motion_setup_put(s, "task ");
@@ -482,6 +501,7 @@ static inline void motion_setup_task(motion_setup *s, const char *name)
 static inline void motion_setup_block(motion_setup *s, const char *name, const char *kind,
                                       const char *object)
 {
+    if (motion_text_is(kind, "MoveAdditive")) motion_setup_third(s);
     motion_setup_put(s, "block ");
     motion_setup_put(s, name);
     motion_setup_put(s, " ");

@@ -40,6 +40,7 @@ VERSION = (0, 9, 0)     # of this module, and of the library that it takes
 MODES = ("aborting", "buffered", "blendingLow", "blendingPrevious", "blendingNext", "blendingHigh")
 AXIS_STATES = ("Disabled", "Standstill", "Homing", "Stopping", "DiscreteMotion", "ContinuousMotion",
                "SynchronizedMotion", "ErrorStop")
+LATER_KINDS = ("MoveAdditive",)     # kinds that a program has from version 3 on
 GROUP_STATES = ("GroupDisabled", "GroupStandby", "GroupMoving", "GroupHoming", "GroupStopping",
                 "GroupErrorStop")
 UNIT = 10**9            # internal units of one unit of a configuration
@@ -279,6 +280,18 @@ class Drive:
         return steps.get((self.state, word & 0x0f), self.state)
 
 
+def program_of(tasks: Mapping[str, Iterable[tuple[str, str, str]]]) -> str:
+    """The program of tasks with their blocks: of version 1, and of version 3 where a block has a kind
+    that version 1 doesn't have."""
+    version, lines = 1, list[str]()
+    for task, blocks in tasks.items():
+        lines.append(f"task {task}")
+        for name, kind, on in blocks:
+            lines.append(f"block {name} {kind} {on}")
+            version = 3 if kind in LATER_KINDS else version
+    return "\n".join([f"motion-program {version}", *lines])
+
+
 class Machine:
     """An open machine. Close it, or use it in a `with`."""
 
@@ -307,12 +320,8 @@ class Machine:
     def from_config(cls, config: str, tasks: Mapping[str, Iterable[tuple[str, str, str]]],
                     library: Optional[ctypes.CDLL] = None) -> "Machine":
         """A machine by a configuration, and for each task its blocks, as (name, kind, axis or group).
-        Raises MotionError."""
-        program = ["motion-program 1"]
-        for task, blocks in tasks.items():
-            program.append(f"task {task}")
-            program += [f"block {name} {kind} {on}" for name, kind, on in blocks]
-        return cls(library or load(), Units(UNIT), [config.encode(), "\n".join(program).encode()])
+        A MoveAdditive wants a configuration of version 3. Raises MotionError."""
+        return cls(library or load(), Units(UNIT), [config.encode(), program_of(tasks).encode()])
 
     def _open(self, handle: _Motion) -> None:
         why = _Refusal()

@@ -6,12 +6,13 @@ FLAGS = ("busy", "active", "done", "aborted", "error", "reached")
 LETTERS = dict(zip(FLAGS, "BADCER"))
 REACHED = {"Power": "Status", "MoveVelocity": "InVelocity", "GearIn": "InGear", "CamIn": "InSync"}
 ENDLESS = ("MoveVelocity", "GearIn", "CamIn")       # commands that are never Done
-MOVES = ("MoveAbsolute", "MoveRelative", "MoveLinearAbsolute", "MoveCircularAbsolute")
+RELATIVE = ("MoveRelative", "MoveAdditive")         # moves that go by a distance
+MOVES = ("MoveAbsolute", *RELATIVE, "MoveLinearAbsolute", "MoveCircularAbsolute")
 KEYS_OF = {
     "Home": "pos", "Stop": "dec jerk", "Halt": "dec jerk", "GroupStop": "dec jerk",
     "GroupHalt": "dec jerk", "MoveVelocity": "vel acc dec jerk mode",
     "GearIn": "acc dec jerk mode master num den", "CamIn": "vel acc dec jerk mode master table",
-    **{kind: "pos vel acc dec jerk mode" for kind in (*MOVES, "MoveAdditive")},
+    **{kind: "pos vel acc dec jerk mode" for kind in MOVES},
 }
 
 

@@ -162,6 +162,43 @@ class Runs(unittest.TestCase):
         self.assertEqual(status, 0)
         self.assertIn("moves:\n", output)
 
+    def additive(self, name):
+        """What is said of a bench with additive moves, and its history."""
+        bench = ROOT / ".ci" / "benches" / f"additive_{name}.bench"
+        trace = bench.with_suffix(".trace")
+        status, output, faults = call(main, bench, "--of", trace)
+        self.assertEqual((status, faults), (0, ""))
+        return output, history.History(Trace(lines_of(str(trace)))).commands
+
+    def test_an_additive_move_is_a_move(self):
+        output, commands = self.additive("on_the_way")
+        self.assertIn("  M (MoveAbsolute): X 0 units to 6 units; 2 cycles from 0 cycles;", output)
+        self.assertIn("  D (MoveAdditive): X 6 units to 30 units; 6 cycles from 2 cycles;", output)
+        self.assertNotIn("warning", output)
+        self.assertEqual(commands[1].target, {"X": 30})
+
+    def test_what_an_additive_move_counts_from(self):
+        for name, targets in (("at_rest", [4, None, 14]), ("waiting", [4, 8, 0]),
+                              ("blended", [20, 30, 40]), ("refused", [60, 10]),
+                              ("after_a_velocity", [None, 42, 34, 46, None, 26, 36])):
+            found = [command.target.get("X") for command in self.additive(name)[1]]
+            self.assertEqual(found, targets, name)
+
+    def test_a_small_additive_move_that_replaces_another_is_meant(self):
+        trace = EXAMPLES / "print-mark" / "print-mark.trace"
+        self.assertNotIn("warning", call(main, "--of", trace)[1])
+        text = trace.read_text()
+        with tempfile.TemporaryDirectory() as folder:
+            file = pathlib.Path(folder) / "other.trace"
+            file.write_text(text.replace("main,MoveAdditive,", "main,MoveRelative,"))
+            output = call(main, "--of", file)[1]
+        self.assertIn("warning tiny-move", output)
+        self.assertIn("warning aborted-by-own-task", output)
+
+    def test_a_rejected_additive_move_names_what_it_counts_from(self):
+        self.assertIn("D (MoveAdditive on X): 50 units from 60 units leads beyond the limits of X, "
+                      "0 to 100 units", self.additive("refused")[0])
+
     def test_no_example_has_an_error_that_no_table_has(self):
         for trace in EXAMPLES.glob("*/*.trace"):
             status, output, faults = call(main, "--of", trace)

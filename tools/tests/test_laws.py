@@ -15,6 +15,8 @@ from motion_tools.trace import Call, Trace, lines_of  # noqa: E402
 
 AxisOf = namedtuple("AxisOf", "lo hi vmax amax dmax start ready")
 RowOf = namedtuple("RowOf", "setpoint state driven")
+MOVES = ("MoveAbsolute", "MoveRelative", "MoveAdditive")
+WITHOUT_COMMANDS = ("Standstill", "Disabled", "ErrorStop")
 FOLDERS = os.environ.get("TRACES", f"{ROOT}/examples/*:{ROOT}/docs/timing")
 
 
@@ -37,15 +39,44 @@ def cycles_bound(call, way, speed):
             - (-way // call.velocity) + call.velocity // call.deceleration + 3)
 
 
-class Course:
-    """What a command has promised: to rest, at a target if it has one, in so many cycles."""
+def is_between(before, place, after):
+    """Whether a step touches a place."""
+    return min(before, after) <= place <= max(before, after)
 
-    def __init__(self, call, kind, setpoint, velocity):
+
+class Course:
+    """What a command has promised: to rest, at a target if it has one, in so many cycles. An
+    additive move counts from the target of the command that it ends, where that has one."""
+
+    def __init__(self, call, kind, setpoint, velocity, goal=None):
         self.call, self.target = call, None
         self.cycles = abs(velocity) // call.deceleration + 1
-        if kind.startswith("Move"):
-            self.target = call.positions[0] + (setpoint if kind == "MoveRelative" else 0)
+        if kind in MOVES:
+            bases = {"MoveAbsolute": 0, "MoveRelative": setpoint,
+                     "MoveAdditive": setpoint if goal is None else goal}
+            self.target = call.positions[0] + bases[kind]
             self.cycles = cycles_bound(call, abs(self.target - setpoint), abs(velocity))
+
+
+class Goal:
+    """The target of the active command of an axis, where it has one and it is known which command is
+    active: one that waits may have taken over once the axis was at the target of the one before."""
+
+    def __init__(self):
+        self.target, self.is_known, self.is_last = None, True, True
+
+    def begin(self, kind, course):
+        """A command of a kind is active in its call, and none waits."""
+        self.target, self.is_last = course.target if course else None, True
+        self.is_known = course is not None or kind != "MoveAdditive"
+
+    def row(self, before, row):
+        """The row of a cycle after a setpoint."""
+        if row.state in WITHOUT_COMMANDS:
+            self.begin("", None)
+        elif not self.is_last and (self.target is None
+                                   or is_between(before, self.target, row.setpoint)):
+            self.is_known = False
 
 
 BLEND_VELOCITIES = {"blendingLow": min, "blendingPrevious": lambda first, second: first,
@@ -65,8 +96,7 @@ class Blend:
 
     def is_done(self, before, setpoint):
         """Whether a step crosses the target, or it is 0 there."""
-        is_between = min(before, setpoint) <= self.target <= max(before, setpoint)
-        return is_between and abs(setpoint - before) <= self.most
+        return is_between(before, self.target, setpoint) and abs(setpoint - before) <= self.most
 
 
 class Axis:
@@ -77,6 +107,7 @@ class Axis:
         self.setpoint, self.velocity, self.driven = definition.start, 0, definition.ready
         self.course, self.blend, self.homed = None, None, False
         self.active = None      # the course of the active command, where none waits after it
+        self.goal = Goal()
         self.rows, self.promises, self.blends, self.broken = 0, 0, 0, []
 
     def call(self, call, kind, rises):
@@ -90,17 +121,26 @@ class Axis:
             self.course = None
         if kind == "Home" and "A" in call.outputs:
             self.homed = True
-        if rises and "A" in call.outputs and kind in ("MoveAbsolute", "MoveRelative", "Halt", "Stop"):
-            self.course = self.active = Course(call, kind, self.setpoint, self.velocity)
+        if rises and "A" in call.outputs:
+            self.course = self.active = self.course_of(call, kind)
+            self.goal.begin(kind, self.course)
+
+    def course_of(self, call, kind):
+        """What a command has promised that is active in its call, as far as that is known."""
+        if kind not in (*MOVES, "Halt", "Stop"):
+            return None
+        if kind == "MoveAdditive" and not self.goal.is_known:
+            return None
+        return Course(call, kind, self.setpoint, self.velocity, self.goal.target)
 
     def waits(self, call, kind):
         """A command waits after the active one: a blend applies where its target lies further
         on."""
-        active, self.active = self.active, None
-        if active is None or active.target is None or kind not in ("MoveAbsolute", "MoveRelative"):
+        active, self.active, self.goal.is_last = self.active, None, False
+        if active is None or active.target is None or kind not in MOVES:
             return
         first = active.target
-        second = call.positions[0] + (first if kind == "MoveRelative" else 0)
+        second = call.positions[0] + (0 if kind == "MoveAbsolute" else first)
         way = (second > first) - (second < first)
         is_ahead = way * (first - self.setpoint) >= 0 and way * self.velocity >= 0
         if call.mode in BLEND_VELOCITIES and way != 0 and is_ahead:
@@ -119,6 +159,7 @@ class Axis:
         is_faulted = row.state == "ErrorStop" or not row.driven
         self.promised(is_faulted)
         self.passes(before, is_faulted)
+        self.goal.row(before, row)
 
     def judge(self, setpoint, step):
         """A driven row after another keeps the limits."""
@@ -200,6 +241,26 @@ class Laws(unittest.TestCase):
             self.assertIn(old, text)
             axes = axes_of(iter(text.replace(old, new).splitlines(True)))
             self.assertTrue(axes["X"].broken, old)
+
+    def test_what_an_additive_move_counts_from_is_looked_at(self):
+        text = (ROOT / "examples" / "print-mark" / "print-mark.trace").read_text()
+        for old, broken in (("call,CORRECT,1,120,", "not at 10121 but 10120 by 0"),
+                            ("call,CORRECT,1,-80,", "not at 20041 but 20040 by 0")):
+            self.assertIn(old, text)
+            name, block, execute, distance, _ = old.split(",")
+            new = f"{name},{block},{execute},{int(distance) + 1},"
+            axis = axes_of(iter(text.replace(old, new).splitlines(True)))["WEB"]
+            self.assertEqual(axis.broken[:1], [broken])
+
+    def test_an_additive_move_is_left_out_where_another_command_may_be_active(self):
+        call = Call("M", True, (20,), 6, 2, 2, 0, "aborting", None, "BA", 0)
+        axis = Axis(AxisOf(-100, 100, 10, 10, 10, 12, True))
+        axis.call(call, "MoveAbsolute", True)
+        axis.call(call._replace(outputs="B", mode="buffered"), "MoveRelative", True)
+        axis.row(RowOf(18, "DiscreteMotion", True))
+        self.assertEqual(axis.course_of(call, "MoveAdditive").target, 40)
+        axis.row(RowOf(20, "DiscreteMotion", True))
+        self.assertIsNone(axis.course_of(call, "MoveAdditive"))
 
     def test_a_blended_move_that_hangs_is_found(self):
         call = Call("M", True, (20,), 6, 2, 2, 0, "blendingLow", None, "B", 0)

@@ -254,6 +254,30 @@ class Configurations(unittest.TestCase):
         self.assertRegex(checked(machine.trace(self.drives)), r"^legal \d+\n$")
 
     @unittest.skipUnless(MOTION.exists(), "the program isn't built")
+    def test_an_additive_move_wants_version_3(self):
+        self.assertEqual(motion.program_of({"main": TASKS["main"][:1]}),
+                         "motion-program 1\ntask main\nblock PX Power X")
+        tasks = {**TASKS, "more": [("AX", "MoveAdditive", "X"), ("HX", "Halt", "X")]}
+        self.assertTrue(motion.program_of(tasks).startswith("motion-program 3\ntask main\n"))
+        with self.assertRaisesRegex(motion.MotionError, "line or item 1, rule P2"):
+            motion.Machine.from_config(CONFIG, tasks)
+        inputs = {"velocity": 500, "acceleration": 2000, "deceleration": 2000}
+        self.machine.close()
+        self.machine = motion.Machine.from_config("version = 3\n" + CONFIG, tasks)
+        self.addCleanup(self.machine.close)
+        powered(self.machine, self.drives)
+        self.machine.call("MX", position=100, **inputs)
+        for _ in range(5):
+            self.machine.step(self.drives)
+        self.assertTrue(self.moved("AX", position="-12.5", **inputs).done)
+        self.assertEqual(self.machine.look("X").setpoint, 87_500_000_000)
+        for task in tasks:
+            self.machine.end(task)
+        trace = self.machine.trace(self.drives)
+        self.assertTrue(trace.splitlines()[1].startswith("trace,3,"))
+        self.assertRegex(checked(trace), r"^legal \d+\n$")
+
+    @unittest.skipUnless(MOTION.exists(), "the program isn't built")
     def test_a_drive_s_fault_and_segments(self):
         machine, inputs = self.machine, {"velocity": 500, "acceleration": 2000, "deceleration": 2000}
         powered(machine, self.drives)

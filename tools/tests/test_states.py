@@ -35,7 +35,8 @@ EVENTS = {
     "PathRest": (("SynchronizedMotion",), "Standstill"),
 }
 BEGINS = {"Home": "HomeAdmitted", "MoveAbsolute": "DiscreteActive",
-          "MoveRelative": "DiscreteActive", "Halt": "DiscreteActive",
+          "MoveRelative": "DiscreteActive", "MoveAdditive": "DiscreteActive",
+          "Halt": "DiscreteActive",
           "MoveVelocity": "VelocityActive", "GearIn": "FollowActive", "CamIn": "FollowActive",
           "Stop": "StopAdmitted"}
 OUT = ("GearOut", "CamOut")

@@ -10,7 +10,7 @@ sys.path.insert(0, str(TOOLS / "tests"))
 
 from tool_runner import run  # noqa: E402
 
-from motion_tools.trace import BLOCK_KINDS  # noqa: E402
+from motion_tools.trace import BLOCK_KINDS, LATER_KINDS  # noqa: E402
 
 
 class Pictures(unittest.TestCase):
@@ -24,7 +24,7 @@ class Pictures(unittest.TestCase):
             _, picture, _ = run("trace_timing", trace, "BLOCK")
             self.assertIn("".join("    " + line for line in picture.splitlines(True)), blocks,
                           trace.name)
-        self.assertEqual(kinds, set(BLOCK_KINDS))
+        self.assertEqual(kinds, {*BLOCK_KINDS, *LATER_KINDS})
 
     def test_a_cut_trace_gives_what_there_is(self):
         lines = (DOCS / "timing" / "halt.trace").read_text().splitlines(True)

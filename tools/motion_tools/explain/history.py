@@ -1,10 +1,11 @@
 """What happened in a run: its commands from their calls to their ends, its errors, and what each
 axis did. A trace is read once, as a stream."""
 
+from collections.abc import Sequence
 from dataclasses import dataclass, field
 from typing import Optional, Protocol
 
-from motion_tools.blocks import ENDLESS, MOVES, acts_on_group
+from motion_tools.blocks import ENDLESS, MOVES, RELATIVE, acts_on_group
 from motion_tools.trace import Axis, Block, Call, Cycle, Machine, Row, Trace, TraceError
 from motion_tools.units import Motions, Step
 
@@ -52,6 +53,7 @@ class Failure:
     rows: dict[str, Row]                                # as they were before
     state: str                                          # of the group, where it is one
     before: dict[str, Row] = field(default_factory=dict)
+    base: dict[str, int] = field(default_factory=dict)  # what a relative move counts from, by axis
 
 
 @dataclass
@@ -191,8 +193,8 @@ class History:
         on = block.block.on
         command = Command(block.block, call, self.cycles, self.positions(on))
         command.active_from = self.cycles
-        live = [each for each in self.live.get(on, []) if each.is_live()]
-        command.target = self.target_of(command, live[-1] if live else None)
+        command.target = self.target_of(command)
+        live = self.living(on)
         if call.mode in (None, "aborting"):
             for each in live:
                 each.aborted_by = each.aborted_by or call
@@ -202,16 +204,29 @@ class History:
         self.commands.append(command)
         block.command = command
 
-    def target_of(self, command: Command, before: Optional[Command]) -> dict[str, int]:
-        """Where a move goes to; of a relative one that waits, from the target of the one before."""
+    def living(self, on: str) -> list[Command]:
+        """The commands of an axis or a group that nothing has ended, the active one first."""
+        return [command for command in self.live.get(on, ()) if command.is_live()]
+
+    def target_of(self, command: Command) -> dict[str, int]:
+        """Where a move goes to."""
         positions = command.call.positions
         if command.block.kind not in MOVES or positions is None:
             return {}
-        if command.block.kind != "MoveRelative":
+        if command.block.kind not in RELATIVE:
             return dict(zip(command.start, positions))
-        waits = before is not None and command.call.mode != "aborting"
-        begin = {**command.start, **(before.target if before and waits else {})}
-        return {name: begin[name] + position for name, position in zip(command.start, positions)}
+        return moved(self.base_of(command.block, command.call), positions)
+
+    def base_of(self, block: Block, call: Call) -> dict[str, int]:
+        """What a relative move counts from: where it waits, the target of the command before it; an
+        additive one that doesn't wait, that of the active command; else, and where that one has no
+        target, the setpoints."""
+        live = self.living(block.on)
+        if call.mode != "aborting":
+            before = live[-1:]
+        else:
+            before = live[:1] if block.kind == "MoveAdditive" else []
+        return {**self.positions(block.on), **(before[0].target if before else {})}
 
     def go_on(self, block: BlockHistory, call: Call) -> None:
         """A call with Execute true, as before: whether its inputs are others, and ignored. A call
@@ -282,21 +297,42 @@ class History:
             self.settle(on, commands)
 
     def take_over(self, on: str, commands: list[Command]) -> None:
-        """Ends a move that stands at its target, or passes it where the next one blends, and lets
-        the one that waits next begin."""
+        """Ends the active command where the one that waits next takes over, and lets that begin; so
+        with one command without an end after another."""
         live = [command for command in commands if command.is_live()]
-        if len(live) < 2 or not live[0].target:
-            return
-        first, second = live[:2]
-        blends = str(second.call.mode).startswith("blending")
-        for name, target in first.target.items():
-            setpoint, begin = self.rows[name].setpoint, first.start[name]
-            passed = (setpoint - target) * (1 if target >= begin else -1) >= 0
-            if not (passed if blends else
-                    setpoint == target and self.axes[name].last_step[0] == 0):
+        while len(live) > 1 and self.gives_way(on, live):
+            first, second, *_ = live
+            first.ended, first.end = self.cycles, self.positions(on)
+            second.active_from, second.start = self.cycles, self.positions(on)
+            del live[0]
+            if not first.target:
+                self.count_from(second.start, live)
+            if first.block.kind not in ENDLESS:
                 return
-        first.ended, first.end = self.cycles, self.positions(on)
-        second.active_from, second.start = self.cycles, self.positions(on)
+
+    def gives_way(self, on: str, live: list[Command]) -> bool:
+        """Whether the first command has given way to the one that waits next: a move at rest at its
+        target, or past it where the next one blends; a Halt at rest; one without an end where the
+        axis has gone over to a move."""
+        first, second, *_ = live
+        if first.block.kind in ENDLESS:
+            return (self.states.get(on) == "DiscreteMotion"
+                    and any(command.block.kind in MOVES for command in live))
+        rests = all(self.axes[name].last_step[0] == 0 for name in self.axes_of(on))
+        if not first.target:
+            return first.block.kind == "Halt" and rests
+        ways = [(self.rows[name].setpoint - target, target >= first.start[name])
+                for name, target in first.target.items()]
+        if str(second.call.mode).startswith("blending"):
+            return all(way >= 0 if goes_up else way <= 0 for way, goes_up in ways)
+        return rests and all(way == 0 for way, _ in ways)
+
+    def count_from(self, base: dict[str, int], commands: list[Command]) -> None:
+        """Gives relative moves their targets that begin one after another, from a place on."""
+        for command in commands:
+            if command.block.kind not in RELATIVE:
+                return
+            base = command.target = moved(base, command.call.positions or ())
 
     def note(self, name: str, state: str, error: int, before: dict[str, Row]) -> None:
         """The state of an axis or a group, and an error that is new."""
@@ -329,9 +365,14 @@ class History:
 
     def fail(self, number: int, block: Block, call: Call, on: str) -> None:
         """An error that a call showed."""
-        self.failures.append(Failure(self.cycles, number, block, call, on, self.rows,
-                                     self.states.get(on, "GroupDisabled" if acts_on_group(
-                                         block.kind) else "")))
+        state = self.states.get(on, "GroupDisabled" if acts_on_group(block.kind) else "")
+        self.failures.append(Failure(self.cycles, number, block, call, on, self.rows, state,
+                                     base=self.base_of(block, call)))
+
+
+def moved(base: dict[str, int], distances: Sequence[int]) -> dict[str, int]:
+    """Positions a distance further on, by axis."""
+    return {name: place + distance for (name, place), distance in zip(base.items(), distances)}
 
 
 def inputs(call: Call) -> tuple[object, ...]:

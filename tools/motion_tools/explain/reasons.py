@@ -3,7 +3,7 @@ hand."""
 
 from typing import Optional
 
-from motion_tools.blocks import acts_on_group
+from motion_tools.blocks import RELATIVE, acts_on_group
 from motion_tools.explain import hints
 from motion_tools.explain.history import Failure, History
 from motion_tools.trace import Call
@@ -71,11 +71,10 @@ def target_reason(history: History, failure: Failure, call: Call, units: Units) 
     parts = []
     for name, position in zip(history.axes_of(failure.owner), call.positions or ()):
         axis = history.axes[name].axis
-        if failure.block and failure.block.kind == "MoveRelative":
-            row = failure.rows.get(name)
-            begin = row.setpoint if row else axis.start
-            parts.append(f"{units.text(name, position)} from {units.text(name, begin)} leads "
-                         f"beyond the limits of {name}, {limits(axis.lo, axis.hi, name, units)}")
+        if failure.block and failure.block.kind in RELATIVE:
+            begin = units.text(name, failure.base[name])
+            parts.append(f"{units.text(name, position)} from {begin} leads beyond the limits of "
+                         f"{name}, {limits(axis.lo, axis.hi, name, units)}")
         elif not axis.lo <= position <= axis.hi:
             parts.append(f"{units.text(name, position)} is beyond the limits of {name}, "
                          f"{limits(axis.lo, axis.hi, name, units)}")

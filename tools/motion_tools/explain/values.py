@@ -1,11 +1,11 @@
 """Warnings about the values of calls: positions that are left out, moves and rates that are tiny,
 numbers that wrapped."""
 
-from collections.abc import Iterator
+from collections.abc import Iterator, Sequence
 
-from motion_tools.blocks import ENDLESS, MOVES
+from motion_tools.blocks import ENDLESS, MOVES, RELATIVE
 from motion_tools.explain.findings import Finding
-from motion_tools.explain.history import Command
+from motion_tools.explain.history import Command, moved
 from motion_tools.explain.run import Run, warning
 from motion_tools.units import decimal
 
@@ -48,10 +48,9 @@ def tiny(run: Run) -> Iterator[Finding]:
         positions = command.call.positions
         if command.block.kind not in MOVES or not positions or command.result.startswith("Error"):
             continue
-        ways = {}
-        for name, position in zip(command.start, positions):
-            begin = 0 if command.block.kind == "MoveRelative" else command.start[name]
-            ways[name] = abs(position - begin)
+        if is_correction(command, positions):
+            continue
+        ways = ways_of(command, positions)
         if any(ways.values()) and all(way * THOUSANDTH < run.history.axes[name].reach
                                       for name, way in ways.items()):
             shown = ", ".join(f"{name} {run.units.text(name, way)}" for name, way in ways.items())
@@ -62,6 +61,19 @@ def tiny(run: Run) -> Iterator[Finding]:
                 found.cure = (f"pos is in thousandths of the user unit: pos := 200 is 0.2 {unit}, "
                               f"and 200 {unit} are pos := 200000")
             yield run.at_call(found, command.block.name, command.begun, command.call)
+
+
+def ways_of(command: Command, positions: Sequence[int]) -> dict[str, int]:
+    """How far the axes of a move go, of a relative one by its distance."""
+    is_relative = command.block.kind in RELATIVE
+    return {name: abs(position - (0 if is_relative else command.start[name]))
+            for name, position in zip(command.start, positions)}
+
+
+def is_correction(command: Command, positions: Sequence[int]) -> bool:
+    """Whether an additive move has added its distance to a move under way, as small ones do."""
+    return (command.block.kind == "MoveAdditive" and command.call.mode == "aborting"
+            and command.target != moved(command.start, positions))
 
 
 def slow(run: Run) -> Iterator[Finding]:

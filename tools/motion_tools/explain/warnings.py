@@ -105,6 +105,8 @@ def aborted(run: Run) -> Iterator[Finding]:
                 found = warning(run, "aborted-by-itself", f"the Execute of {who} fell and rose "
                                 "again while its command was under way: the new command aborted "
                                 f"that one{where(run, command)}", cycle)
+            elif other.kind == "MoveAdditive":
+                continue        # it adds its distance to the move that it aborts
             else:
                 found = warning(run, "aborted-by-own-task", f"{who} was aborted by "
                                 f"{run.who(other.name)} of the same task{where(run, command)}",

@@ -1,0 +1,1 @@
+--cycle-us 4000 --scale 0.01mm
