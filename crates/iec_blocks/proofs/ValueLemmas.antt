@@ -2,7 +2,7 @@
 -- for: replies_hold_their_types
 use Rattle.std.proofs.Common.{ℕ, ◌≤◌, min, Bool, true, false, List, ◌∷◌, Option, None, Some, arith}
 use Rattle.std.proofs.lemmas.Int.{ints}
-use Rattle.std.specs.Prelude.{ℤ, pos, ◌≤ℤ◌, if◌then◌else◌}
+use Rattle.std.specs.Prelude.{pos, ◌≤ℤ◌, if◌then◌else◌}
 use Rattle.iec_tree.specs.declared.standard.Standard.{Standard}
 use Rattle.iec_tree.specs.declared.standard.Standard.TheVariants.{Ton, Tof, Tp, RTrig, FTrig, Ctu, Sr, Rs}
 use Rattle.iec_blocks.specs.Blocks.{reply_of}

@@ -1,5 +1,5 @@
 -- Bistables. IEC 61131-3, 2.5.2.3.1.
-use Rattle.std.specs.Prelude.{ℤ, pos, Bool, false, not, ◌||◌, List, Option}
+use Rattle.std.specs.Prelude.{pos, Bool, false, not, ◌||◌, List, Option}
 use Rattle.std.specs.List.{find}
 use Rattle.std.specs.Option.{option_map_or}
 use Rattle.iec_blocks.specs.declared.call.Call.{Call}

@@ -1,5 +1,5 @@
 -- The up counter. IEC 61131-3, 2.5.2.3.3, in this project's profile.
-use Rattle.std.specs.Prelude.{ℕ, ◌+◌, min, ℤ, pos, int_le, Bool, false, if◌then◌else◌, List, [], ◌∷◌}
+use Rattle.std.specs.Prelude.{ℕ, ◌+◌, min, pos, int_le, false, if◌then◌else◌, List, [], ◌∷◌}
 use Rattle.iec_blocks.specs.Calls.{signal_of, rises}
 use Rattle.iec_blocks.specs.declared.call.Call.{Call}
 use Rattle.iec_blocks.specs.declared.call.Reply.{Reply}

@@ -1,5 +1,5 @@
 -- Pulse timers. IEC 61131-3, 2.5.2.3.4, in this project's profile.
-use Rattle.std.specs.Prelude.{ℕ, ℤ, pos, Bool, true, false, not, ◌&&◌, ◌||◌, if◌then◌else◌, List, [], ◌∷◌, Option, None, Some}
+use Rattle.std.specs.Prelude.{ℕ, pos, Bool, false, not, ◌&&◌, ◌||◌, if◌then◌else◌, List, [], ◌∷◌, Option, None, Some}
 use Rattle.std.specs.List.{list_all}
 use Rattle.iec_blocks.specs.Calls.{signal_of, rises}
 use Rattle.iec_blocks.specs.Timers.{is_before_end, elapsed_of}

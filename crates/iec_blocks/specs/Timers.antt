@@ -1,5 +1,5 @@
 -- On-delay and off-delay timers. IEC 61131-3, 2.5.2.3.4, in this project's profile.
-use Rattle.std.specs.Prelude.{ℕ, ◌-◌, min, ℤ, pos, unsigned_abs, nat_lt, Bool, false, not, ◌&&◌, ◌||◌, if◌then◌else◌, List, [], ◌∷◌, Option, None, Some}
+use Rattle.std.specs.Prelude.{ℕ, ◌-◌, min, pos, unsigned_abs, nat_lt, Bool, false, not, ◌&&◌, ◌||◌, if◌then◌else◌, List, [], ◌∷◌, Option, None, Some}
 use Rattle.std.specs.Int.{int_max}
 use Rattle.iec_blocks.specs.Calls.{signal_of, rises, falls, latest_time}
 use Rattle.iec_blocks.specs.declared.call.Call.{Call}

@@ -1,5 +1,5 @@
 -- Edge detection. IEC 61131-3, 2.5.2.3.2.
-use Rattle.std.specs.Prelude.{ℤ, pos, Bool, List}
+use Rattle.std.specs.Prelude.{pos, List}
 use Rattle.iec_blocks.specs.Calls.{signal_of, rises, falls}
 use Rattle.iec_blocks.specs.declared.call.Call.{Call}
 use Rattle.iec_blocks.specs.declared.call.Reply.{Reply}
