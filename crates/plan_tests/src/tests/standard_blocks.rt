@@ -4,6 +4,7 @@ use iec_blocks::{Block, Call, Input, Reply, Standard, input_named};
 use std::process::Abort;
 
 // A call, and the reply that is wanted.
+#[derive(Clone, Copy)]
 struct Row {
     call: Call,
     wanted: Reply,
@@ -44,7 +45,11 @@ fn untimed(signal: bool, reset: bool, flag: bool, value: i64) -> Row {
 fn expect_replies(rt: &impl Abort, standard: Standard, rows: &[Row]) {
     let mut block = Block::new(standard);
     for (i, row) in rows.iter().enumerate() {
-        assert_eq!(rt; block.call(&row.call), row.wanted, "call {i} of {standard:?}");
+        assert_eq!(rt;
+            block.call(&row.call),
+            row.wanted,
+            "call {i} of {standard:?}"
+        );
     }
 }
 
