@@ -19,9 +19,12 @@ inputs_of Tof = (codes "IN", Signal) ∷ (codes "PT", Preset) ∷ []
 inputs_of Tp = (codes "IN", Signal) ∷ (codes "PT", Preset) ∷ []
 inputs_of RTrig = (codes "CLK", Signal) ∷ []
 inputs_of FTrig = (codes "CLK", Signal) ∷ []
-inputs_of Ctu = (codes "CU", Signal) ∷ (codes "RESET", Reset) ∷ (codes "R", Reset) ∷ (codes "PV", Preset) ∷ []
-inputs_of Sr = (codes "S1", Signal) ∷ (codes "SET1", Signal) ∷ (codes "R", Reset) ∷ (codes "RESET", Reset) ∷ []
-inputs_of Rs = (codes "S", Signal) ∷ (codes "SET", Signal) ∷ (codes "R1", Reset) ∷ (codes "RESET1", Reset) ∷ []
+inputs_of Ctu =
+    (codes "CU", Signal) ∷ (codes "RESET", Reset) ∷ (codes "R", Reset) ∷ (codes "PV", Preset) ∷ []
+inputs_of Sr =
+    (codes "S1", Signal) ∷ (codes "SET1", Signal) ∷ (codes "R", Reset) ∷ (codes "RESET", Reset) ∷ []
+inputs_of Rs =
+    (codes "S", Signal) ∷ (codes "SET", Signal) ∷ (codes "R1", Reset) ∷ (codes "RESET1", Reset) ∷ []
 
 -- the outputs of each block
 unfoldable pub outputs_of : Standard → List (List ℕ × Output)

@@ -38,7 +38,8 @@ pulse_reply_of (call ∷ earlier) =
     let pulse = latest_pulse (call ∷ earlier) in
     record {
       flag = is_running pulse;
-      value = if call.signal || is_running pulse then pos (elapsed_of (begin_of pulse) call) else pos 0;
+      value = if call.signal || is_running pulse then pos (elapsed_of (begin_of pulse) call)
+          else pos 0;
     }
 
 -- a pulse timer after its calls

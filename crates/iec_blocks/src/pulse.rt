@@ -60,7 +60,8 @@ fn is_still_running(pulse: Pulse, call: &Call) -> bool
 
 // Whether a pulse runs after a call at which one may begin.
 fn is_running_after(begins: bool, running: bool, call: &Call) -> bool
-    ensures { result ≡ (if begins then spec.is_before_end (Some call.now.time) call.now else running) }
+    ensures { result ≡
+        (if begins then spec.is_before_end (Some call.now.time) call.now else running) }
 {
     if begins {
         is_before_end(Some(call.time), call)
