@@ -20,6 +20,7 @@ mod lines;
 mod moves;
 mod queues;
 mod roots;
+mod standard_blocks;
 mod steps;
 mod units;
 

@@ -1,0 +1,4 @@
+pub mod PulseLemmas
+pub mod BlockLemmas
+pub mod NameLemmas
+pub mod ValueLemmas

@@ -1,0 +1,9 @@
+pub mod Calls
+pub mod Timers
+pub mod Pulses
+pub mod Counters
+pub mod Bistables
+pub mod Triggers
+pub mod Blocks
+pub mod Inputs
+pub mod Laws
