@@ -377,7 +377,7 @@ static inline uint32_t MC_Home_call(MC_Home *fb, mc_machine *machine)
 MC_MOVING_BLOCK(MoveAbsolute, Position) /* moves an axis to a position */
 MC_MOVING_BLOCK(MoveRelative, Distance) /* moves an axis by a distance */
 MC_MOVING_BLOCK(MoveAdditive, Distance) /* moves an axis by a distance from the target before, in a
-                                         * machine of a bench of version 3 */
+                                         * machine of a bench or a program of version 3 */
 
 /* Moves an axis at a velocity, until another command ends it. */
 typedef struct MC_MoveVelocity {

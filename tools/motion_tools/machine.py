@@ -110,9 +110,9 @@ def words_of(files: list[str]) -> list[str]:
             if kind in kinds:
                 return [word, kinds["config"], kinds[kind]]
     shown = ", ".join(f"{name} ({kind_of(name) or 'of no known kind'})" for name in files)
-    raise WrongFiles("give a bench (its first line is motion-bench 1), or a configuration (TOML) "
-                     "and tasks: a program (its first line is motion-program 1) or Structured "
-                     f"Text (PROGRAM name); here: {shown}")
+    raise WrongFiles("give a bench (its first line is motion-bench 1, 2 or 3), or a configuration "
+                     "(TOML) and tasks: a program (its first line is motion-program 1 or 3) or "
+                     f"Structured Text (PROGRAM name); here: {shown}")
 
 
 def config_of(words: list[str]) -> Optional[str]:

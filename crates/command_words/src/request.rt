@@ -26,7 +26,7 @@ pub enum Job {
     Bench,
     /// Replays a trace, and says whether it is legal.
     Check,
-    /// Replays a trace, and writes it in version 2.
+    /// Replays a trace, and writes it in version 2, one of version 3 in version 3.
     Migrate,
 }
 

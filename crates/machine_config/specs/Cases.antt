@@ -1,5 +1,5 @@
--- Names that differ in the case of letters alone. In a configuration of version 3 no two do: its
--- programs name items in any case. This project's profile.
+-- Names that differ in the case of letters alone. In a configuration of version 3 no two do: in
+-- Structured Text the case of letters doesn't count. This project's profile.
 use Rattle.std.specs.Prelude.{ℕ, Bool, true, false, not, ◌&&◌, ◌||◌, List}
 use Rattle.std.specs.List.{list_any}
 use Rattle.std.specs.Str.{str_eq_ignore_ascii_case}

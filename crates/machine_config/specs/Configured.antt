@@ -148,8 +148,8 @@ abbrev pub GivesVersion : Option Data → TraceVersion → Type 0
 GivesVersion None v = v ≡ version.Two
 GivesVersion (Some d) v = (integer_in (Some d) ≡ pos 3) × (v ≡ version.Three)
 
--- the top gives a version, a cycle and the room of the history, in their ranges, and neither too many items
--- nor too few
+-- the top gives a version, a cycle and the room of the history, in their ranges, and neither too
+-- many items nor too few
 pub record GivesTop (top : Members) (version : TraceVersion) (cycle_us cycles entries : ℕ) :
     Type 0 where
   pub keys : IsTrue (has_keys top_keys top)

@@ -5,8 +5,8 @@ use Rattle.motion_history.specs.Drives.{IsDrive}
 use Rattle.motion_history.specs.declared.refused.TraceVersion.TheVariants.{One}
 use Rattle.machine_config.specs.declared.machine.Machine.{Machine}
 
--- it is of version 2 or 3, its cycle has 100 to 100,000 microseconds, there is a drive for each axis, each in its ranges,
--- and there are no tasks and no blocks
+-- it is of version 2 or 3, its cycle has 100 to 100,000 microseconds, there is a drive for each
+-- axis, each in its ranges, and there are no tasks and no blocks
 pub record IsUnderWay (m : Machine) : Type 0 where
   pub version : m.version ≢ One
   pub shortest : 100 ≤ m.cycle_us

@@ -34,6 +34,7 @@ version_in (Some d) = do
   _ ← broken_unless (int_eq (integer_in (Some d)) (pos 3)) out_of_range
   Ok version.Three
 
+-- the version that the top gives, or else 2
 unfoldable pub version_of : Members → Result TraceVersion ℕ
 version_of top = version_in (value_at Version top)
 
@@ -47,8 +48,9 @@ are_counted top =
     nat_le 1 (count_at Axis top) && nat_le (count_at Axis top) 16 &&
     nat_le (count_at Group top) 4 && nat_le (count_at Table top) 16
 
--- the machine of a text before its items: it has the keys of the top (else C2), its version is
--- one that there is, its cycle and the room of its history are in their ranges (C5), and it has neither too many items nor too few (C6)
+-- the machine of a text before its items: it has the keys of the top (else C2), its version is one
+-- that there is, its cycle and the room of its history are in their ranges (C5), and it has neither
+-- too many items nor too few (C6)
 unfoldable pub top_meaning : Members → Result Machine ℕ
 top_meaning top = do
   _ ← broken_unless (has_keys top_keys top) wrong_key

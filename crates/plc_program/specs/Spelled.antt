@@ -9,8 +9,8 @@ use Rattle.plc_program.specs.Reading.{ending, meaning, opening}
 use Rattle.plc_program.specs.SoFar.{SoFar}
 use Rattle.plc_program.specs.declared.program.Instruction.{Instruction}
 
--- a text is this program for a machine of this version with cycles of this length, and leaves the machine so: it
--- spells lines that lead from the beginning to the program's end
+-- a text is this program for a machine of this version with cycles of this length, and leaves the
+-- machine so: it spells lines that lead from the beginning to the program's end
 pub record IsProgramText (machine : TraceVersion) (cycle_us : ℕ) (s : Setup) (text : List ℕ)
     (program : List (List Instruction)) (after : Setup) : Type 0 where
   pub lines : List (List ℕ)

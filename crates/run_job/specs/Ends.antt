@@ -27,17 +27,18 @@ use Rattle.job_ends.specs.Machines.{GivesMachine}
 use Rattle.run_job.specs.Plants.{GivesProgram, NoPlant}
 
 -- the trace of a history with these logs was written, with the status that says how it ended
-pub record WritesTrace (version : TraceVersion) (setup : Setup) (h : List Entry) (logs : List DriveLog) (old new : Output)
-    (s : Status) : Type 0 where
+pub record WritesTrace (version : TraceVersion) (setup : Setup) (h : List Entry)
+    (logs : List DriveLog) (old new : Output) (s : Status) : Type 0 where
   pub status : Status
   pub ended : HasEnded status setup h
   pub ends : EndsBy old new (run_plan version status setup h (map end_row logs)) s
   -- where the status stands for a trace, its text is read as that of all this
-  pub again : is_traced s ≡ true → IsReadBack (trace_version version setup) Run setup h (map end_row logs)
+  pub again : is_traced s ≡ true →
+      IsReadBack (trace_version version setup) Run setup h (map end_row logs)
 
 -- a plant ran, and the trace of its history was written
-pub record WritesRun (version : TraceVersion) (Started : ℕ → Type 0) (setup : Setup) (program : List (List Instruction))
-    (drives : List DriveDef) (old new : Output) (s : Status) : Type 0 where
+pub record WritesRun (version : TraceVersion) (Started : ℕ → Type 0) (setup : Setup)
+    (program : List (List Instruction)) (drives : List DriveDef) (old new : Output) (s : Status) : Type 0 where
   pub started : Started (length setup.axes + length setup.tasks)
   pub history : List Entry
   pub logs : List DriveLog
@@ -61,7 +62,8 @@ pub record EndsByBoth (told : Option FileMap) (refused : Type 0) (Started : ℕ 
   pub tasks : GivesProgram told program machine outcome
   pub whole : IsProgramOf outcome.setup outcome.program
   pub each : length machine.drives ≡ length outcome.setup.axes
-  pub ends : EndsByPlant machine.version refused Started outcome.setup outcome.program machine.drives old new s
+  pub ends : EndsByPlant machine.version refused Started outcome.setup outcome.program
+      machine.drives old new s
 
 -- how it ends: the files give no plant, or they give one
 abbrev pub Course : Option FileMap → Type 0 → Type 0 → (ℕ → Type 0) → List ℕ → List ℕ →

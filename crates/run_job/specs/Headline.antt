@@ -76,6 +76,7 @@ pub record RunHeadline (files : Option FileMap) (config program : List ℕ)
   -- the status says how the history ends
   pub ended : HasEnded s setup history
   -- what was written is the text of all this, in its version
-  pub written : Appends old new (trace_text (trace_version machine.version setup) Run setup history drives)
+  pub written : Appends old new
+      (trace_text (trace_version machine.version setup) Run setup history drives)
   -- and that text is read as the trace of all this
   pub again : IsReadBack (trace_version machine.version setup) Run setup history drives

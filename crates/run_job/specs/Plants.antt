@@ -26,7 +26,8 @@ IsProgramOfMachine m text o = IsProgramText m.version m.cycle_us m.config text o
 -- the second file is this program of the machine, or gives none
 abbrev pub GivesProgram : Option FileMap → List ℕ → Machine → Outcome → Type 0
 GivesProgram told name m o =
-    GivesReading told name most_bytes (program_of m.version m.cycle_us m.config) (IsProgramOfMachine m) o
+    GivesReading told name most_bytes (program_of m.version m.cycle_us m.config)
+      (IsProgramOfMachine m) o
 
 abbrev pub NoProgram : Option FileMap → Type 0 → List ℕ → Machine → Output → Output → Status →
     Type 0

@@ -8,8 +8,8 @@ use Rattle.trace_text.specs.Writable.{found_entry}
 use Rattle.trace_text.specs.declared.drive_end.DriveEndRow.{DriveEndRow}
 
 -- a trace is that of a history: its entries are those of the history without the offsets of their
--- rows, in version 2 with the place that each drive reported by its offset, and each drive took a
--- setpoint in every cycle
+-- rows, from version 2 on with the place that each drive reported by its offset, and each drive took
+-- a setpoint in every cycle
 pub record IsTraceOf (t : TraceState) (es : List Entry) : Type 0 where
   pub found : t.found ≡ map (found_entry t.version t.config) es
   pub taken : All (λ (d : DriveEndRow). d.taken ≡ cycles_of es) t.drives

@@ -5,7 +5,7 @@ use Rattle.plc_types.specs.declared.axis.AxisRow.{AxisRow}
 use Rattle.motion_history.specs.declared.refused.TraceVersion.{TraceVersion}
 use Rattle.trace_text.specs.RowRanges.{found_place, found_row}
 
--- a row of an axis is found so: without its offset, and with this place in version 2
+-- a row of an axis is found so: without its offset, and from version 2 on with this place
 pub record IsFoundAs (v : TraceVersion) (d : AxisDef) (r found : AxisRow)
     (reported : Option ℤ) : Type 0 where
   pub row : found_row r ≡ found

@@ -18,8 +18,8 @@ abbrev pub tells_illegal : Status → Bool
 tells_illegal (status.Illegal place) = true
 tells_illegal _ = false
 
--- the text of version 2 of a trace's legal history is read as a legal trace of the same machine,
--- history and drives
+-- the text of version 2 or 3 of a trace's legal history is read as a legal trace of the same
+-- machine, history and drives
 abbrev pub IsReadAgain : TraceState → Type 0
 IsReadAgain t = (es : List Entry) → IsLegal t.config es → IsTraceOf t es → IsMigrated t es
 

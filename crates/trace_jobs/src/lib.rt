@@ -1,6 +1,6 @@
-//! The jobs `check` and `migrate`: a trace is replayed and verified, or written in version 2. It
-//! stands on `trace_check`, `trace_text` and `job_ends`. Begin at [`check_text`] and
-//! [`migrate_text`].
+//! The jobs `check` and `migrate`: a trace is replayed and verified, or written in version 2, one of
+//! version 3 in version 3. It stands on `trace_check`, `trace_text` and `job_ends`. Begin at
+//! [`check_text`] and [`migrate_text`].
 #![tactic(auto)]
 
 mod lines;

@@ -34,7 +34,7 @@ from motion_tools.explain.refusals import checked, refusals
 from motion_tools.explain.runs import run_findings
 from motion_tools.explain.texts import kind_of, traces_among
 from motion_tools.explain.verdicts import edge_findings, verdict_findings
-from motion_tools.trace import BLOCK_KINDS, ReadFault, TraceError, lines_of
+from motion_tools.trace import BLOCK_KINDS, LATER_KINDS, ReadFault, TraceError, lines_of
 
 CODE = re.compile(r"[A-Z][0-9]{1,2}|[0-9]{1,3}")
 ERROR_ID = re.compile(r"(?i)(?:e|error|error_?id)([0-9]{1,3})")
@@ -151,6 +151,8 @@ def word_findings(word: str) -> list[Finding]:
     """What is written in the place of a word: a block that isn't there, one that is, a mistake of
     the index, a warning. Raises LookupError."""
     bare = word.removeprefix("MC_")
+    if bare in LATER_KINDS:
+        return [Finding("note", word, f"{bare} is a kind of version 3", hints.absent()[bare])]
     if bare in hints.absent():
         return [Finding("note", word, f"there is no {bare}", hints.absent()[bare])]
     if bare in BLOCK_KINDS:

@@ -29,7 +29,7 @@ from motion_tools.units import Units
 def parser() -> argparse.ArgumentParser:
     """The words of the command line."""
     words = command.parser_of("trace_plot", __doc__, command.STATUSES)
-    words.add_argument("trace", help="a trace of version 1 or 2, or a table of setpoints, as "
+    words.add_argument("trace", help="a trace of version 1, 2 or 3, or a table of setpoints, as "
                                       "c/otg_move.c prints it; - for the standard input")
     words.add_argument("-o", "--output",
                         help="the file to write: a page where its name ends with .html, a PNG or a "

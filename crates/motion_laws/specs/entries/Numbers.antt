@@ -32,7 +32,7 @@ waits_first k [] = 0
 waits_first k (w ∷ ws) = owner_count k w.owner
 
 -- a command may end by an error: the active one, or the first that waits, by 106, where it takes
--- over. MC_MoveRelative; the error is this project's profile
+-- over. MC_MoveRelative, MC_MoveAdditive; the error is this project's profile
 abbrev pub MayFail : ℕ → CommandState → ℕ → Type 0
 MayFail k c error = (active_of k c ≡ 1) ⊎ ((waits_first k c.waiting ≡ 1) × (error ≡ 106))
 

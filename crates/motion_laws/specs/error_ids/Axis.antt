@@ -41,7 +41,7 @@ IsVelocity m v vmax = IsBetween (pos 1) v vmax
 
 -- the target of a command, as far as it is known in its call, lies outside the limits, or is one to
 -- home to by which the places within them have no counts of 32 bits any more. MC_MoveAbsolute,
--- MC_MoveRelative, MC_Home
+-- MC_MoveRelative, MC_MoveAdditive, MC_Home
 pub record HasBadTarget (q : Asked) : Type 0 where
   pub target : ℤ
   pub known : known_target_of q.axis q.last q.wanted ≡ Some target

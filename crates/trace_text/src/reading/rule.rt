@@ -13,7 +13,7 @@ use motion_history::ConfigFault;
 /// A record hasn't twelve fields.
 pub const NOT_TWELVE: u8 = 1;
 
-/// The first record isn't the header, or the second isn't a trace record of version 1 or 2.
+/// The first record isn't the header, or the second isn't a trace record of version 1, 2 or 3.
 pub const NO_HEADER: u8 = 2;
 
 /// The kind is unknown, or doesn't stand here.
