@@ -16,6 +16,7 @@ mod cams;
 mod counts;
 mod followers;
 mod grammar;
+mod interfaces;
 mod lines;
 mod moves;
 mod queues;

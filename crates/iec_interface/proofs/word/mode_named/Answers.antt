@@ -1,0 +1,15 @@
+-- What is found is the first of this name.
+use Rattle.std.proofs.Common.{◌∙◌, rules, tests}
+use Rattle.std.specs.Str.{str_eq_ignore_ascii_case}
+use Rattle.std.proofs.lemmas.Iterator.{YieldsList-from_slice}
+use Rattle.std.proofs.lemmas.Iterator.Search.{find_from_yields_List}
+use Rattle.plc_types.specs.KindNames.{mode_name}
+use Rattle.plc_types.specs.declared.kind_names.TheConstants.{MODES}
+use Rattle.iec_interface.specs.Words.{mode_named, without_mc}
+use Rattle.iec_interface.proofs.word.mode_named.Goals as goal
+
+pub returns : goal.returns
+unfolding mode_named
+returns c =
+    c.copied.ensures
+    ∙ find_from_yields_List (λ x. str_eq_ignore_ascii_case (mode_name x) (without_mc c.args.word.now)) _ _ _ c.find.ensures.ran (YieldsList-from_slice MODES c.iter.ensures.rest) (λ x b q k. search (rules, tests))

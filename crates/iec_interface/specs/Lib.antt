@@ -1,0 +1,5 @@
+pub mod Inputs
+pub mod Objects
+pub mod Outputs
+pub mod ReadBack
+pub mod Words
