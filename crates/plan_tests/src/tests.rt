@@ -22,6 +22,7 @@ mod queues;
 mod roots;
 mod steps;
 mod units;
+mod values;
 
 // The limits of the worked axes.
 const LIMITS: Limits = Limits {
