@@ -6,6 +6,7 @@ use Rattle.std.specs.List.{AllByRecursion, fold, list_all}
 use Rattle.std.specs.Option.{option_and_then}
 use Rattle.std.proofs.lemmas.Int.{ints}
 use Rattle.iec_tree.specs.declared.elementary.Elementary.{Elementary}
+use Rattle.iec_tree.specs.declared.elementary.Elementary.TheVariants.{Bool as BOOL}
 use Rattle.iec_tree.specs.declared.elementary.TheConstants.{ELEMENTARY}
 use Rattle.iec_tree.specs.declared.function.Function.{Function}
 use Rattle.iec_tree.specs.declared.function.Function.TheVariants as function
@@ -37,6 +38,21 @@ covers-held s t z e h = record {
 
     high : (g k z : ℤ) → int_le k g ≡ true → z ≤ℤ k → z ≤ℤ g
     high g k z e h = omega (arith, ints)
+
+-- a value of a type is one of the type in which it is computed, and a truth is one of each
+computed_covers : (t : Elementary) → covers t (computed_of t) ≡ true
+computed_covers BOOL = refl
+computed_covers _ = refl
+
+truth_covers : (t : Elementary) → covers BOOL t ≡ true
+truth_covers BOOL = refl
+truth_covers _ = refl
+
+pub computed-held : (t : Elementary) (z : ℤ) → Holds t z → Holds (computed_of t) z
+computed-held t z h = covers-held t (computed_of t) z (computed_covers t) h
+
+pub truth-of-each : (t : Elementary) (z : ℤ) → Holds BOOL z → Holds t z
+truth-of-each t z h = covers-held BOOL t z (truth_covers t) h
 
 abbrev pub is_within : Option Elementary → Elementary → Bool
 is_within None t = false

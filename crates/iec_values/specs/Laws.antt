@@ -5,7 +5,7 @@ use Rattle.std.specs.List.{AllByRecursion}
 use Rattle.iec_tree.specs.declared.elementary.Elementary.{Elementary}
 use Rattle.iec_tree.specs.declared.function.Function.{Function}
 use Rattle.iec_tree.specs.declared.operator.Operator.{Operator}
-use Rattle.iec_tree.specs.declared.elementary.Elementary.TheVariants.{Int, Dint, Lreal}
+use Rattle.iec_tree.specs.declared.elementary.Elementary.TheVariants.{Bool as BOOL, Int, Dint, Lreal}
 use Rattle.iec_values.specs.Numbers.{quotient, remainder, nearest, rounded}
 use Rattle.iec_values.specs.Changes.{change_type, change_value}
 use Rattle.iec_values.specs.Conversions.{storing_of, widening_of}
@@ -80,6 +80,9 @@ pub record WidenInOrder : Type 0 where
 -- what the tables give is of the type that they say; expressions of INT are computed as DINTs, and
 -- only what is stored in an INT is one
 pub record AreOfTheirTypes : Type 0 where
+  -- a value of a type may be computed with, and a BOOL, 0 or 1, is a value of each type
+  pub computed : (t : Elementary) (z : ℤ) → Holds t z → Holds (computed_of t) z
+  pub truths : (t : Elementary) (z : ℤ) → Holds BOOL z → Holds t z
   pub operations : (o : Operation) (a b : ℤ) →
       IfSome (operation_type o) (λ t. Holds t (operation_value o a b))
   pub changes : (c : Change) (z : ℤ) → IfSome (change_type c) (λ t. Holds t (change_value c z))
@@ -89,7 +92,7 @@ pub record AreOfTheirTypes : Type 0 where
       (λ c. (z : ℤ) → Holds (computed_of t) (change_value c z))
   pub contraries : (t : Elementary) → IfSome (contrary_of t)
       (λ c. (z : ℤ) → Holds (computed_of t) (change_value c z))
-  -- of arguments that are of theirs; a BOOL, 0 or 1, is of each
+  -- of arguments that are of theirs
   pub calls : (f : Function) (ts : List Elementary) → IfSome (call_of f ts)
       (λ call. (values : List ℤ) →
       AllByRecursion (Holds (computed_of call.arguments)) values →
