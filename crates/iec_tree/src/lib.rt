@@ -14,7 +14,7 @@ mod operator;
 mod section;
 mod standard;
 
-pub use elementary::{Elementary, elementary_named};
+pub use elementary::{ELEMENTARY, Elementary, elementary_named};
 pub use function::{Function, function_named};
 pub use iec_tokens::{Name, Number};
 pub use laws::names_are_read_back;

@@ -24,6 +24,7 @@ mod roots;
 mod standard_blocks;
 mod steps;
 mod units;
+mod values;
 
 // The limits of the worked axes.
 const LIMITS: Limits = Limits {

@@ -1,0 +1,9 @@
+pub mod Types
+pub mod Numbers
+pub mod Truths
+pub mod Operations
+pub mod Changes
+pub mod Operators
+pub mod Functions
+pub mod Conversions
+pub mod Laws
