@@ -51,9 +51,13 @@ pub enum Taken {
 }
 
 const ENABLE: [Input; 1] = [Input::Enable];
+
 const EXECUTE: [Input; 1] = [Input::Execute];
+
 const HOME: [Input; 2] = [Input::Execute, Input::Position];
+
 const HALT: [Input; 3] = [Input::Execute, Input::Deceleration, Input::Jerk];
+
 const MOVE_ABSOLUTE: [Input; 8] = [
     Input::Execute,
     Input::Position,
@@ -64,6 +68,7 @@ const MOVE_ABSOLUTE: [Input; 8] = [
     Input::Direction,
     Input::BufferMode,
 ];
+
 const MOVE_RELATIVE: [Input; 7] = [
     Input::Execute,
     Input::Distance,
@@ -73,6 +78,7 @@ const MOVE_RELATIVE: [Input; 7] = [
     Input::Jerk,
     Input::BufferMode,
 ];
+
 const MOVE_VELOCITY: [Input; 7] = [
     Input::Execute,
     Input::Velocity,
@@ -82,6 +88,7 @@ const MOVE_VELOCITY: [Input; 7] = [
     Input::Direction,
     Input::BufferMode,
 ];
+
 const GEAR_IN: [Input; 8] = [
     Input::Execute,
     Input::Master,
@@ -92,6 +99,7 @@ const GEAR_IN: [Input; 8] = [
     Input::Jerk,
     Input::BufferMode,
 ];
+
 const GEAR_IN_POS: [Input; 11] = [
     Input::Execute,
     Input::Master,
@@ -105,6 +113,7 @@ const GEAR_IN_POS: [Input; 11] = [
     Input::Jerk,
     Input::BufferMode,
 ];
+
 const CAM_IN: [Input; 10] = [
     Input::Execute,
     Input::Master,
@@ -117,6 +126,7 @@ const CAM_IN: [Input; 10] = [
     Input::Jerk,
     Input::BufferMode,
 ];
+
 const MOVE_LINEAR: [Input; 13] = [
     Input::Execute,
     Input::Position,
@@ -132,6 +142,7 @@ const MOVE_LINEAR: [Input; 13] = [
     Input::Jerk,
     Input::BufferMode,
 ];
+
 const SET_OVERRIDE: [Input; 2] = [Input::Enable, Input::VelFactor];
 
 /// The inputs of a block besides its object, in the order of PLCopen's declarations.

@@ -33,12 +33,8 @@ pub enum Output {
     AxisErrorId,
 }
 
-const POWER: [Output; 4] = [
-    Output::Status,
-    Output::Busy,
-    Output::Error,
-    Output::ErrorId,
-];
+const POWER: [Output; 4] = [Output::Status, Output::Busy, Output::Error, Output::ErrorId];
+
 const ONCE: [Output; 5] = [
     Output::Done,
     Output::Busy,
@@ -46,6 +42,7 @@ const ONCE: [Output; 5] = [
     Output::Error,
     Output::ErrorId,
 ];
+
 const MOTION: [Output; 6] = [
     Output::Done,
     Output::Busy,
@@ -54,6 +51,7 @@ const MOTION: [Output; 6] = [
     Output::Error,
     Output::ErrorId,
 ];
+
 const IN_VELOCITY: [Output; 6] = [
     Output::InVelocity,
     Output::Busy,
@@ -62,6 +60,7 @@ const IN_VELOCITY: [Output; 6] = [
     Output::Error,
     Output::ErrorId,
 ];
+
 const IN_GEAR: [Output; 6] = [
     Output::InGear,
     Output::Busy,
@@ -70,6 +69,7 @@ const IN_GEAR: [Output; 6] = [
     Output::Error,
     Output::ErrorId,
 ];
+
 const IN_SYNC: [Output; 6] = [
     Output::InSync,
     Output::Busy,
@@ -78,12 +78,14 @@ const IN_SYNC: [Output; 6] = [
     Output::Error,
     Output::ErrorId,
 ];
+
 const OVERRIDE: [Output; 4] = [
     Output::Enabled,
     Output::Busy,
     Output::Error,
     Output::ErrorId,
 ];
+
 const READ_POSITION: [Output; 5] = [
     Output::Valid,
     Output::Busy,
@@ -91,6 +93,7 @@ const READ_POSITION: [Output; 5] = [
     Output::ErrorId,
     Output::Position,
 ];
+
 const READ_VELOCITY: [Output; 5] = [
     Output::Valid,
     Output::Busy,
@@ -98,6 +101,7 @@ const READ_VELOCITY: [Output; 5] = [
     Output::ErrorId,
     Output::Velocity,
 ];
+
 const READ_STATUS: [Output; 12] = [
     Output::Valid,
     Output::Busy,
@@ -112,6 +116,7 @@ const READ_STATUS: [Output; 12] = [
     Output::ContinuousMotion,
     Output::SynchronizedMotion,
 ];
+
 const READ_ERROR: [Output; 5] = [
     Output::Valid,
     Output::Busy,

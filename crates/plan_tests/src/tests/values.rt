@@ -26,12 +26,32 @@ fn operations_wrap_end_and_divide_toward_zero(rt: HostRuntime) {
         (Operation::DintMod, 7, 0, 0),
         (Operation::LrealPlus, i64::MAX, 1, i64::MAX),
         (Operation::LrealMinus, -i64::MAX, 1, -i64::MAX),
-        (Operation::LrealTimes, 1_500_000_000, -1_000_000_001, -1_500_000_001),
-        (Operation::LrealOver, -2_000_000_000, 3_000_000_000, -666_666_666),
+        (
+            Operation::LrealTimes,
+            1_500_000_000,
+            -1_000_000_001,
+            -1_500_000_001,
+        ),
+        (
+            Operation::LrealOver,
+            -2_000_000_000,
+            3_000_000_000,
+            -666_666_666,
+        ),
         (Operation::LrealOver, 1_000_000_000, 0, 0),
-        (Operation::TimePlus, 1_000_000_000_000_000, 1, 1_000_000_000_000_000),
+        (
+            Operation::TimePlus,
+            1_000_000_000_000_000,
+            1,
+            1_000_000_000_000_000,
+        ),
         (Operation::TimeTimes, 1_000_000, 3, 3_000_000),
-        (Operation::TimeTimes, -1_000_000_000_000, 2_000, -1_000_000_000_000_000),
+        (
+            Operation::TimeTimes,
+            -1_000_000_000_000,
+            2_000,
+            -1_000_000_000_000_000,
+        ),
         (Operation::TimeOver, -1_000_000, 3, -333_333),
         (Operation::TimeOver, 1_000_000, 0, 0),
         (Operation::Xor, 1, 1, 0),
@@ -53,10 +73,30 @@ fn ints_wrap_where_they_are_stored(rt: HostRuntime) {
 #[test]
 fn operators_are_for_their_types(rt: HostRuntime) {
     for (operator, left, right, want) in [
-        (Operator::Plus, Elementary::Int, Elementary::Dint, Some(Elementary::Dint)),
-        (Operator::Over, Elementary::Dint, Elementary::Lreal, Some(Elementary::Lreal)),
-        (Operator::Below, Elementary::Time, Elementary::Time, Some(Elementary::Bool)),
-        (Operator::Times, Elementary::Time, Elementary::Int, Some(Elementary::Time)),
+        (
+            Operator::Plus,
+            Elementary::Int,
+            Elementary::Dint,
+            Some(Elementary::Dint),
+        ),
+        (
+            Operator::Over,
+            Elementary::Dint,
+            Elementary::Lreal,
+            Some(Elementary::Lreal),
+        ),
+        (
+            Operator::Below,
+            Elementary::Time,
+            Elementary::Time,
+            Some(Elementary::Bool),
+        ),
+        (
+            Operator::Times,
+            Elementary::Time,
+            Elementary::Int,
+            Some(Elementary::Time),
+        ),
         (Operator::Times, Elementary::Int, Elementary::Time, None),
         (Operator::Over, Elementary::Time, Elementary::Time, None),
         (Operator::Mod, Elementary::Lreal, Elementary::Int, None),
@@ -71,7 +111,10 @@ fn operators_are_for_their_types(rt: HostRuntime) {
 #[test]
 fn functions_are_for_their_types(rt: HostRuntime) {
     use Elementary::{Bool, Dint, Int, Lreal, Time};
-    assert_eq!(rt; called("ABS", &[Dint], &[-2_147_483_648]), Some(2_147_483_647));
+    assert_eq!(rt;
+        called("ABS", &[Dint], &[-2_147_483_648]),
+        Some(2_147_483_647)
+    );
     assert_eq!(rt; called("abs", &[Time], &[-1]), None);
     assert_eq!(rt; called("Max", &[Int, Dint, Int], &[3, 9, -4]), Some(9));
     assert_eq!(rt; called("MIN", &[Bool, Bool], &[0, 1]), None);
@@ -81,8 +124,14 @@ fn functions_are_for_their_types(rt: HostRuntime) {
     assert_eq!(rt; called("INT_TO_DINT", &[Int], &[65_534]), Some(-2));
     assert_eq!(rt; called("INT_TO_DINT", &[Dint], &[1]), None);
     assert_eq!(rt; called("DINT_TO_INT", &[Int], &[65_534]), Some(-2));
-    assert_eq!(rt; called("REAL_TO_INT", &[Lreal], &[-2_500_000_000]), Some(-3));
-    assert_eq!(rt; called("LREAL_TO_INT", &[Lreal], &[40_000_000_000_000]), Some(32_767));
+    assert_eq!(rt;
+        called("REAL_TO_INT", &[Lreal], &[-2_500_000_000]),
+        Some(-3)
+    );
+    assert_eq!(rt;
+        called("LREAL_TO_INT", &[Lreal], &[40_000_000_000_000]),
+        Some(32_767)
+    );
     assert_eq!(rt; called("TIME_TO_DINT", &[Time], &[-1_999]), Some(-1));
     assert_eq!(rt; called("DINT_TO_TIME", &[Dint], &[999]), Some(999_000));
 }
