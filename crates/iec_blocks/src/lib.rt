@@ -1,7 +1,7 @@
-//! The standard function blocks of Structured Text (IEC 61131-3, in this project's profile): timers,
-//! triggers, the up counter and the bistables, as steps on values. What a block replies to a call
-//! is defined over the list of its calls; what it keeps between calls follows from that list too.
-//! It stands on `iec_tree`. Begin at [`Block`].
+//! The standard function blocks of Structured Text (IEC 61131-3, in this project's profile):
+//! timers, triggers, the up counter and the bistables, as steps on values. What a block replies to
+//! a call is defined over the list of its calls; what it keeps between calls follows from that list
+//! too. It stands on `iec_tree`. Begin at [`Block`].
 #![tactic(auto)]
 
 mod bistable;

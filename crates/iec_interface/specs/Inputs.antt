@@ -1,5 +1,5 @@
--- The inputs of motion blocks besides their object. PLCopen Motion Control Part 1 and Part 4; that an
--- override has one factor, and Position1 to Position6, are this project's profile.
+-- The inputs of motion blocks besides their object. PLCopen Motion Control Part 1 and Part 4; that
+-- an override has one factor, and Position1 to Position6, are this project's profile.
 use Rattle.std.specs.Prelude.{ℕ, codes, Bool, true, false, if◌then◌else◌, Option, List, [], ◌∷◌, ◌++◌}
 use Rattle.std.specs.List.{find}
 use Rattle.std.specs.Str.{str_eq_ignore_ascii_case}
@@ -47,11 +47,27 @@ rates = input.Acceleration ∷ input.Deceleration ∷ input.Jerk ∷ []
 abbrev pub ratio : List Input
 ratio = input.Master ∷ input.RatioNumerator ∷ input.RatioDenominator ∷ []
 
+-- the rates and the buffer mode, in which each motion that may wait ends
+abbrev pub rates_and_mode : List Input
+rates_and_mode = rates ++ (input.BufferMode ∷ [])
+
+-- the same with a direction
+abbrev pub rates_and_direction : List Input
+rates_and_direction = rates ++ (input.Direction ∷ input.BufferMode ∷ [])
+
+-- what a motion by a distance takes
+abbrev pub distance : List Input
+distance = input.Execute ∷ input.Distance ∷ input.Velocity ∷ rates_and_mode
+
 -- the positions of a group's axes, each by itself
 abbrev pub positions : List Input
 positions =
     input.Position1 ∷ input.Position2 ∷ input.Position3
     ∷ input.Position4 ∷ input.Position5 ∷ input.Position6 ∷ []
+
+-- what a motion along a path takes
+abbrev pub path : List Input
+path = input.Execute ∷ input.Position ∷ positions ++ (input.Velocity ∷ rates_and_mode)
 
 -- the inputs of each block, in the order of its declaration
 unfoldable pub inputs_of : Motion → List Input
@@ -61,18 +77,18 @@ inputs_of block.Home = input.Execute ∷ input.Position ∷ []
 inputs_of block.Stop = input.Execute ∷ input.Deceleration ∷ input.Jerk ∷ []
 inputs_of block.Halt = input.Execute ∷ input.Deceleration ∷ input.Jerk ∷ []
 inputs_of block.MoveAbsolute =
-    input.Execute ∷ input.Position ∷ input.Velocity ∷ rates ++ (input.Direction ∷ input.BufferMode ∷ [])
-inputs_of block.MoveRelative = input.Execute ∷ input.Distance ∷ input.Velocity ∷ rates ++ (input.BufferMode ∷ [])
-inputs_of block.MoveAdditive = input.Execute ∷ input.Distance ∷ input.Velocity ∷ rates ++ (input.BufferMode ∷ [])
-inputs_of block.MoveVelocity = input.Execute ∷ input.Velocity ∷ rates ++ (input.Direction ∷ input.BufferMode ∷ [])
-inputs_of block.GearIn = input.Execute ∷ ratio ++ rates ++ (input.BufferMode ∷ [])
+    input.Execute ∷ input.Position ∷ input.Velocity ∷ rates_and_direction
+inputs_of block.MoveRelative = distance
+inputs_of block.MoveAdditive = distance
+inputs_of block.MoveVelocity = input.Execute ∷ input.Velocity ∷ rates_and_direction
+inputs_of block.GearIn = input.Execute ∷ ratio ++ rates_and_mode
 inputs_of block.GearInPos =
     input.Execute ∷ ratio
-    ++ (input.MasterSyncPosition ∷ input.SlaveSyncPosition ∷ input.Velocity ∷ rates ++ (input.BufferMode ∷ []))
+    ++ (input.MasterSyncPosition ∷ input.SlaveSyncPosition ∷ input.Velocity ∷ rates_and_mode)
 inputs_of block.GearOut = input.Execute ∷ []
 inputs_of block.CamIn =
     input.Execute ∷ input.Master ∷ input.CamTableId ∷ input.MasterOffset ∷ input.SlaveOffset
-    ∷ input.Velocity ∷ rates ++ (input.BufferMode ∷ [])
+    ∷ input.Velocity ∷ rates_and_mode
 inputs_of block.CamOut = input.Execute ∷ []
 inputs_of block.SetOverride = input.Enable ∷ input.VelFactor ∷ []
 inputs_of block.GroupEnable = input.Execute ∷ []
@@ -80,10 +96,8 @@ inputs_of block.GroupDisable = input.Execute ∷ []
 inputs_of block.GroupReset = input.Execute ∷ []
 inputs_of block.GroupStop = input.Execute ∷ input.Deceleration ∷ input.Jerk ∷ []
 inputs_of block.GroupHalt = input.Execute ∷ input.Deceleration ∷ input.Jerk ∷ []
-inputs_of block.MoveLinearAbsolute =
-    input.Execute ∷ input.Position ∷ positions ++ (input.Velocity ∷ rates ++ (input.BufferMode ∷ []))
-inputs_of block.MoveCircularAbsolute =
-    input.Execute ∷ input.Position ∷ positions ++ (input.Velocity ∷ rates ++ (input.BufferMode ∷ []))
+inputs_of block.MoveLinearAbsolute = path
+inputs_of block.MoveCircularAbsolute = path
 inputs_of block.GroupSetOverride = input.Enable ∷ input.VelFactor ∷ []
 inputs_of block.ReadActualPosition = input.Enable ∷ []
 inputs_of block.ReadActualVelocity = input.Enable ∷ []

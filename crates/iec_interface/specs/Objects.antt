@@ -1,5 +1,5 @@
--- What a motion block acts on, and the inputs by which a call gives it. PLCopen Motion Control Part 1
--- and Part 4; that a follower's axis may be given as Axis too is this project's profile.
+-- What a motion block acts on, and the inputs by which a call gives it. PLCopen Motion Control Part
+-- 1 and Part 4; that a follower's axis may be given as Axis too is this project's profile.
 use Rattle.std.specs.Prelude.{ℕ, codes, Bool, true, false, List, [], ◌∷◌}
 use Rattle.std.specs.List.{list_any}
 use Rattle.std.specs.Str.{str_eq_ignore_ascii_case}

@@ -58,8 +58,8 @@ reads read = output.Valid ∷ output.Busy ∷ output.Error ∷ output.ErrorId �
 -- the states of an axis
 abbrev pub states : List Output
 states =
-    output.ErrorStop ∷ output.Disabled ∷ output.Stopping ∷ output.Homing
-    ∷ output.Standstill ∷ output.DiscreteMotion ∷ output.ContinuousMotion ∷ output.SynchronizedMotion ∷ []
+    output.ErrorStop ∷ output.Disabled ∷ output.Stopping ∷ output.Homing ∷ output.Standstill
+    ∷ output.DiscreteMotion ∷ output.ContinuousMotion ∷ output.SynchronizedMotion ∷ []
 
 -- the outputs of each block, in the order of its declaration
 unfoldable pub outputs_of : Motion → List Output

@@ -56,13 +56,22 @@ result_of made t = t
 -- two operands that widen to one type
 unfoldable pub paired_of : Operator → Elementary → Option Join
 paired_of o t = option_map
-    (λ (p : Operation). record { operation = p; left = t; right = t; result = result_of (operation_type p) t })
+    (λ (p : Operation). record {
+      operation = p;
+      left = t;
+      right = t;
+      result = result_of (operation_type p) t;
+    })
     (operation_of t o)
 
 -- a TIME on the left of a whole number
+abbrev pub scaled : Operation → Join
+scaled p = record { operation = p; left = Time; right = Dint; result = Time }
+
+-- the same by an operator, if there is one for these operands
 unfoldable pub scaled_of : Operator → Elementary → Option Join
-scaled_of Times Time = Some (record { operation = operation.TimeTimes; left = Time; right = Dint; result = Time })
-scaled_of Over Time = Some (record { operation = operation.TimeOver; left = Time; right = Dint; result = Time })
+scaled_of Times Time = Some (scaled operation.TimeTimes)
+scaled_of Over Time = Some (scaled operation.TimeOver)
 scaled_of o t = None
 
 -- what an operator makes of two operands by their types: the operation, the types to which the

@@ -59,5 +59,13 @@ fn words_are_read_with_and_without_mc(rt: HostRuntime) {
         direction_named(b"MCNEGATIVEDIRECTION"),
         Some(Direction::Negative)
     );
+    assert_eq!(rt;
+        direction_named(b"PositiveDirection"),
+        Some(Direction::Positive)
+    );
+    assert_eq!(rt;
+        direction_named(b"mcShortestWay"),
+        Some(Direction::Shortest)
+    );
     assert_eq!(rt; direction_named(b"Shortest"), None);
 }
