@@ -27,15 +27,29 @@ pub enum Sort {
     /// An enumeration, by its number.
     Enumeration(u32),
     /// A word of the enumeration with this number, and what it counts.
-    Word { of: u32, value: i64 },
+    Word {
+        of: u32,
+        value: i64,
+    },
 
     // ---- of the text or of a program
     /// It is declared, and its declaration hasn't ended.
     Coming,
-    Variable { of: Elementary, place: u32 },
-    Constant { of: Elementary, value: i64 },
+    /// It can't be assigned where it is that of a FOR.
+    Variable {
+        of: Elementary,
+        place: u32,
+        looped: bool,
+    },
+    Constant {
+        of: Elementary,
+        value: i64,
+    },
     Elements(Elements),
-    Standard { standard: Standard, place: u32 },
+    Standard {
+        standard: Standard,
+        place: u32,
+    },
 
     // ---- of a program
     /// A motion block, by its number.

@@ -101,7 +101,12 @@ impl Table {
             return Err(OutOfMemory);
         };
         let key = key_of(&known.name);
-        insert(self.alloc, &mut self.index, &key.bytes[..key.len], known.sort)?;
+        insert(
+            self.alloc,
+            &mut self.index,
+            &key.bytes[..key.len],
+            known.sort,
+        )?;
         let _ = self.names.push(known);
         Ok(())
     }

@@ -1,6 +1,7 @@
 -- What the parts of an expression do with the operands that wait. IEC 61131-3 section 7.3.2
 -- (expressions), in this project's profile.
 use Rattle.std.specs.Prelude.{pos, Bool, true, false, if◌then◌else◌, Option, Some, None, List, [], ◌∷◌, reverse}
+use Rattle.std.specs.List.{list_all}
 use Rattle.iec_operands.specs.Operands.{Waiting, last_of, rest_of, type_of, value_of}
 use Rattle.iec_operands.specs.declared.operand.Operand.{Operand}
 use Rattle.iec_operands.specs.declared.operand.Operand.TheVariants.{Value, Arguments}
@@ -86,3 +87,9 @@ called f w =
 -- it widens to a type
 unfoldable pub given : Elementary → Waiting → Waiting
 given t w = mistyped_unless (widens (type_of (last_of w.held)) t) (taken w)
+
+-- all operands behind the last mark widen to a type, and are taken off with the mark
+unfoldable pub all_given : Elementary → Waiting → Waiting
+all_given t w =
+    mistyped_unless (list_all (λ s. widens s t) (reverse (arguments_of w.held)))
+    (record w { held = before_arguments w.held })

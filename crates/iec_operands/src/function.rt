@@ -10,10 +10,7 @@ use motion_numbers::OutOfMemory;
 use std::alloc::Global;
 
 // Takes the operands behind the last mark off, and the mark: their types, the last first.
-fn take_arguments(
-    held: &mut Pile<Operand>,
-    types: &mut Vec<Elementary>,
-) -> Result<(), OutOfMemory>
+fn take_arguments(held: &mut Pile<Operand>, types: &mut Vec<Elementary>) -> Result<(), OutOfMemory>
     ensures types { OnOk result (types.new.items ≡ types.old.items ++ spec.arguments_of held.old) }
     ensures before { OnOk result (held.new ≡ spec.before_arguments held.old) }
 {
@@ -27,10 +24,7 @@ fn take_arguments(
 }
 
 /// Takes the operands behind the last mark off, and the mark: their types, the first first.
-pub fn arguments_in(
-    alloc: Global,
-    held: &mut Pile<Operand>,
-) -> Result<Vec<Elementary>, OutOfMemory>
+pub fn arguments_in(alloc: Global, held: &mut Pile<Operand>) -> Result<Vec<Elementary>, OutOfMemory>
     ensures types { IfOk result (λ ts. ts.items ≡ reverse (spec.arguments_of held.old)) }
     ensures before { OnOk result (held.new ≡ spec.before_arguments held.old) }
 {

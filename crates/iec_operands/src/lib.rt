@@ -9,5 +9,5 @@ mod operand;
 mod operands;
 
 pub use number::{Literal, literal_of};
-pub use operand::Operand;
+pub use operand::{Operand, type_of, value_of};
 pub use operands::Operands;

@@ -9,7 +9,7 @@ use crate::operand::{Operand, type_of, value_of};
 use iec_grammar::Pile;
 use iec_tree::{Elementary, Function, Operator};
 use iec_values::{
-    Call, Change, Join, call_of, changed, contrary_of, join_of, negative_of, widens,
+    Call, Change, Join, all_widen, call_of, changed, contrary_of, join_of, negative_of, widens,
 };
 use motion_numbers::OutOfMemory;
 use std::alloc::Global;
@@ -81,11 +81,7 @@ impl Operands {
     }
 
     // Adds what a change makes of an operand, if there is the change.
-    fn push_changed(
-        &mut self,
-        change: Option<Change>,
-        operand: Operand,
-    ) -> Result<(), OutOfMemory>
+    fn push_changed(&mut self, change: Option<Change>, operand: Operand) -> Result<(), OutOfMemory>
         ensures { OnOk result (self.new ≡ spec.changed_by change operand self.old) }
     {
         match change {
@@ -170,13 +166,25 @@ impl Operands {
         self.push_called(call_of(function, &types))
     }
 
-    /// The last operand is given to what is of this type.
+    /// The last operand is given to what is of this type, and taken off.
     #[tactic(auto, unfolding(crate::specs::Expressions::given))]
-    pub fn give(&mut self, to: Elementary)
-        ensures { self.new ≡ spec.given to self.old }
+    pub fn give(&mut self, to: Elementary) -> Operand
+        ensures value { result ≡ waiting.last_of self.old.held }
+        ensures given { self.new ≡ spec.given to self.old }
     {
-        let of = type_of(self.pop());
-        self.need(widens(of, to));
+        let operand = self.pop();
+        self.need(widens(type_of(operand), to));
+        operand
+    }
+
+    /// All operands behind the last mark are given to what is of this type.
+    #[tactic(auto, unfolding(crate::specs::Expressions::all_given))]
+    pub fn give_all(&mut self, alloc: Global, to: Elementary) -> Result<(), OutOfMemory>
+        ensures { OnOk result (self.new ≡ spec.all_given to self.old) }
+    {
+        let types = arguments_in(alloc, &mut self.held)?;
+        self.need(all_widen(&types, to));
+        Ok(())
     }
 
     /// A statement begins, in which no type is wrong yet.

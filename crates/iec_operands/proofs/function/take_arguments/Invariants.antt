@@ -6,7 +6,7 @@ use Rattle.iec_operands.proofs.function.take_arguments.Given as goal
 abbrev pub invariant-loop-operand : goal.invariant-loop-operand
 invariant-loop-operand l = record {
   types : l.types.items ++ arguments_of l.held ≡ l.fn.types.items ++ arguments_of l.fn.held;
-  before : before_arguments l.held ≡ before_arguments l.fn.held
+  before : before_arguments l.held ≡ before_arguments l.fn.held;
 }
 
 abbrev pub decreases-loop-operand : goal.decreases-loop-operand
