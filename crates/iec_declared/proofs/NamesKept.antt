@@ -1,5 +1,5 @@
 -- The names that are declared together stay while they are defined.
--- for: Declarations::note
+-- for: note
 use Rattle.std.proofs.Common.{◌≡◌, ◌∷◌, ◌∙◌, ◌<◌, ◌+◌, ℕ, ℤ, suc, Bool, true, false, if◌then◌else◌, List, drop, get_or, drop-cons, length, ap, sym, refl, arith}
 use Rattle.iec_declared.specs.Declarations.{all_defined, defined, defined_now, with_block, with_name}
 use Rattle.iec_declared.specs.Stand.{Declared, lost_unless, stopped_unless}

@@ -1,4 +1,5 @@
 -- An index after a name was given a value, and what it then has of the names in a list.
+-- for: define_globally, define_locally
 use Rattle.std.proofs.Common.{◌≡◌, ℕ, Bool, Option, Some, List, [], ◌∷◌, Vec, Global, refl, sym, ap, ◌∙◌, inl, inr}
 use Rattle.std.specs.Prelude.{cond}
 use Rattle.iec_names.specs.Tables.{sort_among}
