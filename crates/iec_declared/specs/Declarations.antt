@@ -102,10 +102,10 @@ declares u d = declares_in u (opened_once u.line d)
 unfoldable pub initial : Declared → Declared
 initial d = record d { declaration = record d.declaration { has_initial = true } }
 
--- `[`
+-- `[`: the values that follow are counted
 unfoldable pub list : Declared → Declared
 list d = record d {
-  declaration = record d.declaration { has_list = true };
+  declaration = record d.declaration { has_list = true; values = 0 };
   operands = with_operand Arguments d.operands;
 }
 

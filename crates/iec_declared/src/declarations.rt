@@ -266,6 +266,7 @@ impl Declarations {
         ensures { OnOk result (self.new ≡ spec.list self.old) }
     {
         self.declaration.has_list = true;
+        self.declaration.values = 0;
         self.operands.push(Operand::Arguments)
     }
 

@@ -38,7 +38,7 @@ const WRONG: [(&str, u64, u8); 14] = [
     ("TYPE\na : (\nb := 40000); END_TYPE", 1, 4),
     ("TYPE a : (b := 32767,\nc); END_TYPE", 2, 5),
     ("VAR_GLOBAL CONSTANT k : DINT := 1; END_VAR\nTYPE a : (b := k); END_TYPE", 2, 4),
-    ("VAR_GLOBAL main : DINT; END_VAR\n", 3, 3),
+    ("VAR_GLOBAL main : DINT; END_VAR\n", 2, 3),
     ("VAR_GLOBAL a : ARRAY[1..2] OF INT := [1,\n2,\n3,\n4]; END_VAR", 3, 5),
     ("VAR_GLOBAL CONSTANT k : INT := k; END_VAR", 1, 3),
 ];
@@ -112,7 +112,7 @@ fn fault_of(alloc: Global, text: &str) -> Option<Option<(u64, u8)>> {
 
 // That of a program with these parts before it and in its second line.
 fn fault_with(alloc: Global, before: &str, inside: &str) -> Option<Option<(u64, u8)>> {
-    match format!(in alloc; "{before}PROGRAM main\n{inside}\nEND_PROGRAM") {
+    match format!(in alloc; "{before} PROGRAM main\n{inside}\nEND_PROGRAM") {
         Ok(text) => fault_of(alloc, &text),
         Err(_) => None,
     }
