@@ -1,7 +1,13 @@
 -- What the points of a cam table keep.
 use Rattle.std.specs.Prelude.{ℕ, zero, suc, Bool, true, ◌&&◌, ◌||◌, nat_le, int_lt, ◌-◌, ◌<◌, ◌≤◌, max, ℤ, pos, ◌<ℤ◌, unsigned_abs, List, length, slice_index_or}
+use Rattle.cam_table.specs.declared.table.Sort.{Sort}
 use Rattle.cam_table.specs.declared.table.TheConstants.{MOST_POINTS}
 use Rattle.motion_numbers.specs.declared.TheConstants.{MOST_PLACE}
+
+-- a cam table: its sort and its points. PLCopen Motion Control Part 1, MC_CamTableSelect
+pub record Cam : Type 0 where
+  pub sort : Sort
+  pub points : List (ℤ × ℤ)
 
 -- the point of a row, the rows counted from 1: a master position and the position of the axis
 -- there. PLCopen Motion Control Part 1, MC_CamIn, cam tables

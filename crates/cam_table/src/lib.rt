@@ -9,4 +9,4 @@ mod table;
 
 pub use fault::CamFault;
 pub use laws::{cam_tables_are_told, points_have_one_fault};
-pub use table::{CamTable, MOST_POINTS};
+pub use table::{CamTable, MOST_POINTS, Sort};

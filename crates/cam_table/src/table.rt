@@ -2,7 +2,7 @@
 
 ghost use Rattle.std.specs.Prelude.{◌≡◌, ◌≢◌, ℕ, ◌+◌, ◌<◌, ◌≤◌, ◌↔◌, List, ℤ, length, IfOk, IfNone, IfSome, MatchOption};
 ghost use Rattle.cam_table.specs.declared.fault.CamFault.{CamFault};
-ghost use Rattle.cam_table.specs.CamTable.{IsCamTable, IsGoodRow};
+ghost use Rattle.cam_table.specs.CamTable.{Cam, IsCamTable, IsGoodRow};
 ghost use Rattle.cam_table.specs.CamFault.{IsRowFault, IsFault};
 
 use crate::fault::CamFault;
@@ -13,25 +13,39 @@ use std::marker::Model;
 /// The most points that a cam table has.
 pub const MOST_POINTS: usize = 4096;
 
+/// How a follower goes on where its master leaves the points of a table (PLCopen Motion Control Part
+/// 1, MC_CamTableSelect, the input Periodic).
+#[derive(Clone, Copy, Debug, PartialEq, Eq)]
+pub enum Sort {
+    /// It stands at the first point before the points and at the last one after them, and follows
+    /// to a position that is the table's own.
+    Plain,
+    /// The same, joined while the master moves, and by offsets.
+    Once,
+    /// It begins again, from where it ended.
+    Periodic,
+}
+
 /// A cam table: 2 to 4,096 points, each a master position and the position of the axis there, in
 /// internal units within 10^15 of 0. The master positions rise from point to point.
 #[derive(Drop)]
 pub struct CamTable {
+    sort: Sort,
     points: Vec<(i64, i64)>,
 }
 
 impl Model for CamTable {
-    ghost Value = { List (ℤ × ℤ) };
+    ghost Value = { Cam };
 
-    ghost view = { λ table. table.points.items };
+    ghost view = { λ table. record { sort = table.sort; points = table.points.items } };
 
     ghost invariant = { λ table. IsCamTable table.points.items };
 }
 
 impl CamTable {
-    /// The table of these points. A fault of the points is reported before out of memory.
-    pub fn new(alloc: Global, points: &[(i64, i64)]) -> Result<CamTable, CamFault>
-        ensures ok { IfOk result (λ table. table ≡ points.now) }
+    /// The table of this sort and these points. A fault of the points is reported before out of memory.
+    pub fn new(alloc: Global, sort: Sort, points: &[(i64, i64)]) -> Result<CamTable, CamFault>
+        ensures ok { IfOk result (λ table. table ≡ record { sort = sort; points = points.now }) }
         ensures refused { (fault : CamFault) → fault ≢ CamFault.OutOfMemory →
             (result ≡ Err fault) ↔ IsFault points.now fault }
         ensures out_of_memory_without_a_fault { result ≡ Err CamFault.OutOfMemory →
@@ -41,15 +55,22 @@ impl CamTable {
             return Err(fault);
         }
         match points.to_vec(alloc) {
-            Ok(points) => Ok(CamTable { points }),
+            Ok(points) => Ok(CamTable { sort, points }),
             Err(_) => Err(CamFault::OutOfMemory),
         }
     }
 
+    /// How a follower goes on where its master leaves the points.
+    pub fn sort(&self) -> Sort
+        ensures { result ≡ self.now.sort }
+    {
+        self.sort
+    }
+
     /// The points, in the order of their master positions.
     pub fn points(&self) -> &[(i64, i64)]
-        ensures points { result.now ≡ self.now }
-        ensures table { IsCamTable self.now }
+        ensures points { result.now ≡ self.now.points }
+        ensures table { IsCamTable self.now.points }
     {
         self.points.as_slice()
     }

@@ -2,7 +2,7 @@
 -- for: axis, block, group and others
 use Rattle.std.specs.Prelude.{◌≡◌, refl, ℕ, ◌<◌, ◌≤◌, ℤ, Bool, true, false, ◌&&◌, ◌||◌, not, nat_le, nat_lt, if◌then◌else◌, Option, Some, None, List, length}
 use Rattle.std.proofs.lemmas.Bool.{and_parts, leb-false, leb-true, ltb-false, not-false, or_parts}
-use Rattle.plc_types.specs.declared.limits.Limits.{Limits}
+use Rattle.motion_history.specs.declared.axes.AxisParameters.{AxisParameters}
 use Rattle.plc_types.specs.Names.{is_name}
 use Rattle.plc_types.specs.declared.kind.BlockKind.{BlockKind}
 use Rattle.motion_history.specs.declared.sizes.TheConstants.{MOST_AXES, MOST_GROUPS, MOST_MEMBERS, MOST_TASKS, MOST_BLOCKS, MOST_CYCLES, MOST_ENTRIES}
@@ -59,27 +59,27 @@ name_fault-none s name h =
     }
 
 -- an axis that is not refused has a new name, is in its ranges, and has room
-pub record IsNewAxis (s : Setup) (name : List ℕ) (limits : Limits) (inc start : ℤ) : Type 0 where
+pub record IsNewAxis (s : Setup) (name : List ℕ) (in_range : Bool) : Type 0 where
   pub name_is : IsNewName s name
-  pub range : is_axis_range limits inc start ≡ true
+  pub range : in_range ≡ true
   pub room : length s.axes < MOST_AXES
 
-pub axis_fault-none : (s : Setup) (name : List ℕ) (limits : Limits) (inc start : ℤ) →
-    axis_fault s name limits inc start ≡ None → IsNewAxis s name limits inc start
+pub axis_fault-none : (s : Setup) (name : List ℕ) (a : AxisParameters) →
+    axis_fault s name a ≡ None → IsNewAxis s name (is_axis_range a.limits a.inc a.start a.jmax a.modulo)
 unfolding axis_fault
-axis_fault-none s name limits inc start h =
+axis_fault-none s name a h =
     let p = neither (name_fault s name) _ h in
-    let q = not_refused (not (is_axis_range limits inc start)) _ _ p.1 in
+    let q = not_refused (not (is_axis_range a.limits a.inc a.start a.jmax a.modulo)) _ _ p.1 in
     record {
       name_is = name_fault-none s name p.0;
-      range = not-false (is_axis_range limits inc start) q.0;
+      range = not-false (is_axis_range a.limits a.inc a.start a.jmax a.modulo) q.0;
       room = leb-false MOST_AXES (length s.axes) (not_refused (nat_le MOST_AXES (length s.axes)) _ _ q.1).0;
     }
 
 -- a group that is not refused has a new name and 2 to 6 axes that are free, and has room
 pub record IsNewGroup (s : Setup) (name axes : List ℕ) : Type 0 where
   pub name_is : IsNewName s name
-  pub free : are_free (length s.axes) s.groups axes ≡ true
+  pub free : are_free s.axes s.groups axes ≡ true
   pub room : length s.groups < MOST_GROUPS
   pub few : length axes ≤ MOST_MEMBERS
   pub some : 2 ≤ length axes
@@ -88,7 +88,7 @@ pub group_fault-none : (s : Setup) (name axes : List ℕ) → group_fault s name
 unfolding group_fault
 group_fault-none s name axes h =
     let p = neither (name_fault s name) _ h in
-    let free : Bool = are_free (length s.axes) s.groups axes in
+    let free : Bool = are_free s.axes s.groups axes in
     let q = not_refused (not free) _ _ p.1 in
     let many = not_refused (nat_le MOST_GROUPS (length s.groups) || nat_lt MOST_MEMBERS (length axes)) _ _ q.1 in
     let each = or_parts (nat_le MOST_GROUPS (length s.groups)) (nat_lt MOST_MEMBERS (length axes)) many.0 in

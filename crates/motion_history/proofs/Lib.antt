@@ -6,6 +6,7 @@ pub mod TableLemmas
 pub mod HistoryLemmas
 pub mod KeptLemmas
 pub mod WholeLemmas
+pub mod WholeSetups
 pub mod TouchLemmas
 pub mod RangeLaws
 pub mod SoundLaws

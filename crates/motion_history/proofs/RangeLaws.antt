@@ -1,6 +1,6 @@
 -- What the tests of an axis's ranges say.
 -- for: configurations_are_sound, axes_are_in_range
-use Rattle.std.specs.Prelude.{◌≡◌, ◌-◌, ◌/◌, ◌%◌, ◌^◌, pos, negsuc, neg_ℤ, ℤ, ◌-ℤ◌, ◌≤ℤ◌, ◌<ℤ◌, unsigned_abs, true, ◌&&◌, int_le, int_lt}
+use Rattle.std.specs.Prelude.{◌≡◌, ◌-◌, ◌/◌, ◌%◌, ◌^◌, pos, negsuc, neg_ℤ, ℤ, ◌-ℤ◌, ◌≤ℤ◌, ◌<ℤ◌, unsigned_abs, Bool, true, false, not, if◌then◌else◌, ◌&&◌, int_le, int_lt}
 use Rattle.std.specs.Int.{int_div_euclid, int_rem_euclid}
 use Rattle.std.proofs.Common.{arith}
 use Rattle.std.proofs.lemmas.Bool.{and_parts, eqb-true}
@@ -12,7 +12,8 @@ use Rattle.plc_types.specs.declared.axis.AxisDef.{AxisDef}
 use Rattle.plc_types.specs.Limits.{AreLimits}
 use Rattle.plc_types.specs.declared.limits.Limits.{Limits}
 use Rattle.motion_history.specs.AxisRanges.{IsMultiple, AreAxisRanges}
-use Rattle.motion_history.specs.Ranges.{is_axis, is_axis_range, are_places, are_speeds, is_between, has_counts, is_start}
+use Rattle.motion_history.specs.Built.{is_plain_axis}
+use Rattle.motion_history.specs.Ranges.{is_axis_range, is_jmax, is_travel, is_turning, are_places, are_speeds, is_between, has_counts, is_start}
 
 less_nothing : (z : ℤ) → z -ℤ pos 0 ≡ z
 less_nothing z = omega (arith, ints)
@@ -85,10 +86,10 @@ multiple_of (negsuc a) (pos b) some none =
     record { count = negsuc (a / b); is = omega (arith, ints) }
 multiple_of z (negsuc b) some none = absurd (omega (arith, ints))
 
--- an axis that passes the tests is in its ranges
-pub ranges_of : (d : AxisDef) → is_axis d ≡ true → AreAxisRanges d
-unfolding is_axis_range
-ranges_of d h =
+-- an axis whose travel passes the tests is in its ranges
+travel_of : (d : AxisDef) → is_travel d.limits d.inc d.start ≡ true → AreAxisRanges d
+unfolding is_travel
+travel_of d h =
     let l = d.limits in
     let start = and_parts (are_places l && are_speeds l && is_between (pos 1) d.inc (pos MOST_INCREMENT) && has_counts l d.inc) (is_start l d.inc d.start) h in
     let counts = and_parts (are_places l && are_speeds l && is_between (pos 1) d.inc (pos MOST_INCREMENT)) (has_counts l d.inc) start.0 in
@@ -109,3 +110,15 @@ ranges_of d h =
       below = b.1;
       whole = multiple_of d.start d.inc i.0 (eqb-true _ 0 s.1);
     }
+
+-- what is asked of an axis that doesn't turn is asked of its travel
+plain_of : (jerk modulo other : Bool) (turn travel : Bool) → ((jerk && (if modulo then turn else travel)) && (not modulo && other)) ≡ true → travel ≡ true
+plain_of true false other turn travel h = (and_parts travel other h).0
+plain_of true true other true travel h = absurd (cc)
+plain_of true true other false travel h = absurd (cc)
+plain_of false modulo other turn travel h = absurd (cc)
+
+-- an axis that passes the tests is in its ranges
+pub ranges_of : (d : AxisDef) → is_plain_axis d ≡ true → AreAxisRanges d
+unfolding is_axis_range
+ranges_of d h = travel_of d (plain_of (is_jmax d.jmax) d.modulo _ (is_turning d.limits d.inc d.start d.jmax) (is_travel d.limits d.inc d.start) h)

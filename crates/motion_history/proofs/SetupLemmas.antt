@@ -1,6 +1,6 @@
 -- A configuration stays within its ranges with one more item.
 -- for: axis, block, group and others
-use Rattle.std.specs.Prelude.{◌≡◌, ℕ, ℤ, ◌+◌, ◌-◌, ◌≤◌, ◌<◌, Bool, true, false, ◌&&◌, not, nat_eq, nat_lt, if◌then◌else◌, List, [], ◌∷◌, ◌++◌, length, map, refl, replicate, Some, None}
+use Rattle.std.specs.Prelude.{◌≡◌, ℕ, ℤ, zero, suc, ◌+◌, ◌-◌, ◌≤◌, ◌<◌, Bool, true, false, ◌&&◌, not, nat_eq, nat_lt, if◌then◌else◌, List, [], ◌∷◌, ◌++◌, length, map, refl, replicate, Some, None}
 use Rattle.std.specs.List.{AllByRecursion, IsDistinct, flat_map, list_all}
 use Rattle.std.proofs.Common.{◌∙◌, sym, ap, subst, arith, append_assoc, length-append}
 use Rattle.std.proofs.Math.Seq.{take-length, drop-append_seam}
@@ -9,13 +9,13 @@ use Rattle.std.proofs.lemmas.Grind.{flat_map-append}
 use Rattle.std.proofs.lemmas.List.{append-nil, map-append, take-append-le}
 use Rattle.std.proofs.lemmas.List.Folds.{list_all-append}
 use Rattle.plc_types.specs.declared.axis.AxisDef.{AxisDef}
-use Rattle.cam_table.specs.CamTable.{IsCamTable}
+use Rattle.cam_table.specs.CamTable.{Cam, IsCamTable}
 use Rattle.plc_types.specs.Kinds.{acts_on_group}
 use Rattle.motion_history.specs.declared.sizes.TheConstants.{MOST_MEMBERS, MOST_TABLES}
 use Rattle.motion_history.specs.declared.fault.ConfigFault.TheVariants.{OutOfRange}
 use Rattle.motion_history.specs.declared.config.BlockDef.{BlockDef}
 use Rattle.motion_history.specs.declared.config.GroupDef.{GroupDef}
-use Rattle.motion_history.specs.Faults.{is_used, is_member, are_distinct, are_free, room_fault}
+use Rattle.motion_history.specs.Faults.{is_used, is_member, are_distinct, are_free, may_join, room_fault}
 use Rattle.motion_history.specs.Members.{members_of, group_of, IsGroup, AreApart}
 use Rattle.motion_history.specs.Ranges.{is_axis, is_block}
 use Rattle.motion_history.specs.Setup.{Setup, names_of, AreNames, IsWithin}
@@ -98,18 +98,24 @@ IsGroup-more axes more le d g = record {
 members-group_of : (name axes : List ℕ) → members_of (group_of name axes) ≡ axes
 members-group_of name axes = take-append-le (length axes) axes (replicate (MOST_MEMBERS - length axes) 0) (omega arith) ∙ take-length axes
 
+-- what may join is there
+joins-there : (axes : List AxisDef) (n : ℕ) → may_join axes n ≡ true → n < length axes
+joins-there [] n h = absurd (cc)
+joins-there (d ∷ ds) zero h = omega arith
+joins-there (d ∷ ds) (suc n) h = let l : n < length ds = joins-there ds n h in omega arith
+
 -- what is free is there
-free_there : (s : Setup) (axes : List ℕ) → are_free (length s.axes) s.groups axes ≡ true → AllByRecursion (λ axis. axis < length s.axes) axes
+free_there : (s : Setup) (axes : List ℕ) → are_free s.axes s.groups axes ≡ true → AllByRecursion (λ axis. axis < length s.axes) axes
 free_there s axes free =
-    let parts = and_parts (list_all (λ axis. nat_lt axis (length s.axes) && not (is_member s.groups axis)) axes) (are_distinct axes) free in
-    each-weaker _ _ (λ axis h. ltb-true axis (length s.axes) (and_parts (nat_lt axis (length s.axes)) _ h).0) axes (each-from_list_all _ axes parts.0)
+    let parts = and_parts (list_all (λ axis. may_join s.axes axis && not (is_member s.groups axis)) axes) (are_distinct axes) free in
+    each-weaker _ _ (λ axis h. joins-there s.axes axis (and_parts (may_join s.axes axis) _ h).0) axes (each-from_list_all _ axes parts.0)
 
 -- what is free is in no group
-free_apart : (s : Setup) (name axes : List ℕ) → AreApart s.groups → are_free (length s.axes) s.groups axes ≡ true →
+free_apart : (s : Setup) (name axes : List ℕ) → AreApart s.groups → are_free s.axes s.groups axes ≡ true →
     AreApart (s.groups ++ group_of name axes ∷ [])
 free_apart s name axes apart free =
-    let parts = and_parts (list_all (λ axis. nat_lt axis (length s.axes) && not (is_member s.groups axis)) axes) (are_distinct axes) free in
-    let none = each-weaker _ _ (λ axis h. not-true _ (and_parts (nat_lt axis (length s.axes)) _ h).1) axes (each-from_list_all _ axes parts.0) in
+    let parts = and_parts (list_all (λ axis. may_join s.axes axis && not (is_member s.groups axis)) axes) (are_distinct axes) free in
+    let none = each-weaker _ _ (λ axis h. not-true _ (and_parts (may_join s.axes axis) _ h).1) axes (each-from_list_all _ axes parts.0) in
     let members : flat_map members_of (s.groups ++ group_of name axes ∷ []) ≡ flat_map members_of s.groups ++ axes =
     flat_map-append members_of s.groups (group_of name axes ∷ []) ∙ ap (λ l. flat_map members_of s.groups ++ l) (append-nil _ ∙ members-group_of name axes) in
     subst (λ (l : List ℕ). IsDistinct nat_eq l) (sym members) (apart-more s.groups axes apart parts.1 none)
@@ -153,7 +159,7 @@ IsWithin-none cycles entries b h room =
 
 -- ---- one more item
 
-pub IsWithin-axis : (s : Setup) (d : AxisDef) → IsWithin s → IsNewAxis s d.name d.limits d.inc d.start →
+pub IsWithin-axis : (s : Setup) (d : AxisDef) → IsWithin s → IsNewAxis s d.name (is_axis d) →
     IsWithin (record s { axes = s.axes ++ d ∷ [] })
 IsWithin-axis s d w new =
     let n : length (s.axes ++ d ∷ []) ≡ length s.axes + 1 = length-append s.axes (d ∷ []) in
@@ -214,17 +220,17 @@ IsWithin-group s name axes w new =
       };
     }
 
-pub IsWithin-table : (s : Setup) (points : List (ℤ × ℤ)) → IsWithin s → IsCamTable points → length s.tables < MOST_TABLES →
-    IsWithin (record s { tables = s.tables ++ points ∷ [] })
-IsWithin-table s points w table room =
-    let n : length (s.tables ++ points ∷ []) ≡ length s.tables + 1 = length-append s.tables (points ∷ []) in
+pub IsWithin-table : (s : Setup) (t : Cam) → IsWithin s → IsCamTable t.points → length s.tables < MOST_TABLES →
+    IsWithin (record s { tables = s.tables ++ t ∷ [] })
+IsWithin-table s t w table room =
+    let n : length (s.tables ++ t ∷ []) ≡ length s.tables + 1 = length-append s.tables (t ∷ []) in
     record {
       axes = w.axes;
       groups = w.groups;
       apart = w.apart;
       blocks = w.blocks;
       names = w.names;
-      tables = each-append _ s.tables (points ∷ []) w.tables (table, tt);
+      tables = each-append _ s.tables (t ∷ []) w.tables (table, tt);
       sizes = record {
         axes = w.sizes.axes;
         groups = w.sizes.groups;

@@ -9,7 +9,7 @@ use Rattle.cam_table.specs.declared.fault.CamFault.{CamFault}
 use Rattle.cam_table.specs.declared.fault.CamFault.TheVariants as cam
 use Rattle.motion_history.specs.declared.sizes.TheConstants.{MOST_TABLES}
 use Rattle.motion_history.specs.declared.fault.ConfigFault.{ConfigFault}
-use Rattle.motion_history.specs.declared.fault.ConfigFault.TheVariants.{BadName, NameUsed, NameUnknown, OutOfRange, Table, TooMany, TooFew, OutOfMemory}
+use Rattle.motion_history.specs.declared.fault.ConfigFault.TheVariants.{BadName, NameUsed, NameUnknown, OutOfRange, Table, TooMany, TooFew, NotBuilt, OutOfMemory}
 use Rattle.motion_history.specs.Faults.{IsPointsFault}
 
 -- points that make a table have no fault
@@ -44,6 +44,7 @@ without_memory sound tables points told t h NameUsed n = (λ e. absurd (not_told
 without_memory sound tables points told t h NameUnknown n = (λ e. absurd (not_told _ NameUnknown (λ x. cc) n (sym h ∙ e)), λ i. absurd i)
 without_memory sound tables points told t h OutOfRange n = (λ e. absurd (not_told _ OutOfRange (λ x. cc) n (sym h ∙ e)), λ i. absurd i)
 without_memory sound tables points told t h TooFew n = (λ e. absurd (not_told _ TooFew (λ x. cc) n (sym h ∙ e)), λ i. absurd i)
+without_memory sound tables points told t h NotBuilt n = (λ e. absurd (not_told _ NotBuilt (λ x. cc) n (sym h ∙ e)), λ i. absurd i)
 without_memory sound tables points told t h OutOfMemory n = absurd (n refl)
 
 -- what is reported where the points have a fault
@@ -57,6 +58,7 @@ with_fault sound tables points fault told is only h NameUsed n = (λ e. absurd (
 with_fault sound tables points fault told is only h NameUnknown n = (λ e. absurd (cc), λ i. absurd i)
 with_fault sound tables points fault told is only h OutOfRange n = (λ e. absurd (cc), λ i. absurd i)
 with_fault sound tables points fault told is only h TooFew n = (λ e. absurd (cc), λ i. absurd i)
+with_fault sound tables points fault told is only h NotBuilt n = (λ e. absurd (cc), λ i. absurd i)
 with_fault sound tables points fault told is only h OutOfMemory n = absurd (n refl)
 
 -- no fault of points is out of memory

@@ -10,7 +10,7 @@ pub record IsMultiple (place inc : ℤ) : Type 0 where
   pub count : ℤ
   pub is : place ≡ count *ℤ inc
 
--- an axis is in its ranges, the counts of its places are of 32 bits, and its start is a multiple of
+-- an axis that doesn't turn for ever is in its ranges, the counts of its places are of 32 bits, and its start is a multiple of
 -- its increment within its limits
 pub record AreAxisRanges (d : AxisDef) : Type 0 where
   pub limits : AreLimits d.limits

@@ -2,7 +2,7 @@
 use Rattle.std.specs.Prelude.{◌≢◌, ◌<◌, ◌≤◌, IsTrue, All, AllPairs, length, if◌then◌else◌}
 use Rattle.std.specs.List.{flat_map}
 use Rattle.plc_types.specs.Names.{is_name}
-use Rattle.cam_table.specs.CamTable.{IsCamTable}
+use Rattle.cam_table.specs.CamTable.{Cam, IsCamTable}
 use Rattle.plc_types.specs.Kinds.{acts_on_group}
 use Rattle.motion_history.specs.AxisRanges.{AreAxisRanges}
 use Rattle.motion_history.specs.Members.{members_of, IsGroup}
@@ -21,7 +21,7 @@ pub record IsSound (s : Setup) : Type 0 where
   pub axes : All AreAxisRanges s.axes
   pub groups : All (IsGroup (length s.axes)) s.groups
   pub apart : AllPairs (λ a b. a ≢ b) (flat_map members_of s.groups)
-  pub tables : All IsCamTable s.tables
+  pub tables : All (λ (t : Cam). IsCamTable t.points) s.tables
   pub blocks : All (IsBlock s) s.blocks
   pub named : All (λ name. IsTrue (is_name name)) (names_of s)
   pub differ : AllPairs (λ a b. a ≢ b) (names_of s)

@@ -1,8 +1,9 @@
 -- When an item of a configuration is refused, and why. This project's profile.
-use Rattle.std.specs.Prelude.{◌≡◌, ◌≤◌, ℕ, ℤ, Bool, true, ◌||◌, ◌&&◌, not, nat_eq, nat_le, nat_lt, if◌then◌else◌, Option, Some, None, Result, Err, IsOkUnless, List, [], ◌∷◌, length}
+use Rattle.std.specs.Prelude.{◌≡◌, ◌≤◌, ℕ, ℤ, Bool, true, ◌||◌, ◌&&◌, not, nat_eq, nat_le, nat_lt, slice_get, false, if◌then◌else◌, Option, Some, None, Result, Err, IsOkUnless, List, [], ◌∷◌, length}
 use Rattle.std.specs.List.{list_all, list_any}
+use Rattle.std.specs.Option.{option_map_or}
 use Rattle.std.specs.Str.{bytes_eq}
-use Rattle.plc_types.specs.declared.limits.Limits.{Limits}
+use Rattle.plc_types.specs.declared.axis.AxisDef.{AxisDef}
 use Rattle.plc_types.specs.Names.{is_name}
 use Rattle.cam_table.specs.CamFault.{IsFault}
 use Rattle.cam_table.specs.CamTable.{IsCamTable}
@@ -10,9 +11,11 @@ use Rattle.plc_types.specs.declared.kind.BlockKind.{BlockKind}
 use Rattle.motion_history.specs.declared.sizes.TheConstants.{MOST_AXES, MOST_GROUPS, MOST_MEMBERS, MOST_TABLES, MOST_TASKS, MOST_BLOCKS, MOST_CYCLES, MOST_ENTRIES}
 use Rattle.motion_history.specs.declared.config.GroupDef.{GroupDef}
 use Rattle.motion_history.specs.declared.fault.ConfigFault.{ConfigFault}
-use Rattle.motion_history.specs.declared.fault.ConfigFault.TheVariants.{BadName, NameUsed, NameUnknown, OutOfRange, Table, TooMany, TooFew, OutOfMemory}
+use Rattle.motion_history.specs.declared.fault.ConfigFault.TheVariants.{BadName, NameUsed, NameUnknown, OutOfRange, Table, TooMany, TooFew, NotBuilt, OutOfMemory}
 use Rattle.motion_history.specs.Members.{members_of}
+use Rattle.motion_history.specs.Built.{is_built_axis, is_built_block, is_built_table}
 use Rattle.motion_history.specs.Ranges.{is_axis_range, has_block}
+use Rattle.motion_history.specs.declared.axes.AxisParameters.{AxisParameters}
 use Rattle.motion_history.specs.Setup.{Setup, names_of}
 
 -- whether an axis, a group, a task or a block has this name
@@ -37,10 +40,10 @@ first_fault (Some f) later = Some f
 first_fault None later = later
 
 -- why an axis is refused
-unfoldable pub axis_fault : Setup → List ℕ → Limits → ℤ → ℤ → Option ConfigFault
-axis_fault s name limits inc start =
+unfoldable pub axis_fault : Setup → List ℕ → AxisParameters → Option ConfigFault
+axis_fault s name p =
     first_fault (name_fault s name)
-    (if not (is_axis_range limits inc start) then Some OutOfRange
+    (if not (is_axis_range p.limits p.inc p.start p.jmax p.modulo) then Some OutOfRange
     else if nat_le MOST_AXES (length s.axes) then Some TooMany else None)
 
 -- whether an axis is in a group
@@ -52,16 +55,20 @@ abbrev pub are_distinct : List ℕ → Bool
 are_distinct [] = true
 are_distinct (n ∷ more) = not (list_any (nat_eq n) more) && are_distinct more
 
--- whether axes are there, are in no group, and none comes twice
-abbrev pub are_free : ℕ → List GroupDef → List ℕ → Bool
+-- whether an axis is there that doesn't turn for ever
+abbrev pub may_join : List AxisDef → ℕ → Bool
+may_join axes axis = option_map_or (λ (d : AxisDef). not d.modulo) (slice_get axes axis) false
+
+-- whether axes are there that may join a group, are in none, and none comes twice
+abbrev pub are_free : List AxisDef → List GroupDef → List ℕ → Bool
 are_free axes groups new =
-    list_all (λ axis. nat_lt axis axes && not (is_member groups axis)) new && are_distinct new
+    list_all (λ axis. may_join axes axis && not (is_member groups axis)) new && are_distinct new
 
 -- why a group is refused
 unfoldable pub group_fault : Setup → List ℕ → List ℕ → Option ConfigFault
 group_fault s name axes =
     first_fault (name_fault s name)
-    (if not (are_free (length s.axes) s.groups axes) then Some NameUnknown
+    (if not (are_free s.axes s.groups axes) then Some NameUnknown
     else if nat_le MOST_GROUPS (length s.groups) || nat_lt MOST_MEMBERS (length axes)
     then Some TooMany
     else if nat_lt (length axes) 2 then Some TooFew else None)
@@ -76,6 +83,7 @@ IsPointsFault tables points NameUsed = ⊥
 IsPointsFault tables points NameUnknown = ⊥
 IsPointsFault tables points OutOfRange = ⊥
 IsPointsFault tables points TooFew = ⊥
+IsPointsFault tables points NotBuilt = ⊥
 IsPointsFault tables points OutOfMemory = ⊥
 
 -- why a table is refused
@@ -96,11 +104,22 @@ block_fault s name task kind object =
     then Some NameUnknown
     else if nat_le MOST_BLOCKS (length s.blocks) then Some TooMany else None)
 
--- why a configuration is refused as a whole: it has no axis, no task or no block
+-- whether a configuration has an axis, a task and a block
+abbrev pub has_items : Setup → Bool
+has_items s = nat_le 1 (length s.axes) && nat_le 1 (length s.tasks) && nat_le 1 (length s.blocks)
+
+-- whether it asks for nothing that isn't built
+abbrev pub asks_for_built : Setup → Bool
+asks_for_built s =
+    list_all is_built_axis s.axes && list_all is_built_table s.tables &&
+    list_all is_built_block s.blocks
+
+-- why a configuration is refused as a whole: it has no axis, no task or no block, or it asks for what
+-- isn't built
 abbrev pub whole_fault : Setup → Option ConfigFault
 whole_fault s =
-    if nat_le 1 (length s.axes) && nat_le 1 (length s.tasks) && nat_le 1 (length s.blocks)
-    then None else Some TooFew
+    if not (has_items s) then Some TooFew
+    else if not (asks_for_built s) then Some NotBuilt else None
 
 -- a call answers the fault where there is one, and else is Ok unless memory ran out
 abbrev pub FaultsBy : {A : Type 0} → Option ConfigFault → Result A ConfigFault → Type 0

@@ -2,6 +2,7 @@ pub mod Members
 pub mod Setup
 pub mod Items
 pub mod Ranges
+pub mod Built
 pub mod Faults
 pub mod Entries
 pub mod Looks

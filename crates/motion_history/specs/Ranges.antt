@@ -1,6 +1,8 @@
 -- The ranges of a configuration's numbers, as tests. This project's profile.
-use Rattle.std.specs.Prelude.{ℕ, ◌-◌, ◌^◌, Bool, ◌&&◌, ◌==◌, unsigned_abs, nat_lt, if◌then◌else◌, ℤ, pos, neg_ℤ, int_le, int_lt}
+use Rattle.std.specs.Prelude.{ℕ, ◌+◌, ◌-◌, ◌*◌, ◌/◌, ◌^◌, Bool, ◌&&◌, ◌||◌, ◌==◌, unsigned_abs, nat_le, nat_lt, if◌then◌else◌, ℤ, pos, neg_ℤ, ◌*ℤ◌, int_le, int_lt}
 use Rattle.std.specs.Int.{int_div_euclid, int_rem_euclid}
+use Rattle.std.specs.Ordering.{int_eq}
+use Rattle.motion_numbers.specs.Run.{run_of}
 use Rattle.motion_numbers.specs.declared.TheConstants.{MOST_INCREMENT, MOST_PLACE, MOST_STEP}
 use Rattle.plc_types.specs.declared.limits.Limits.{Limits}
 use Rattle.plc_types.specs.declared.axis.AxisDef.{AxisDef}
@@ -34,15 +36,65 @@ has_counts l inc =
 abbrev pub is_start : Limits → ℤ → ℤ → Bool
 is_start l inc start = is_between l.lo start l.hi && (unsigned_abs (int_rem_euclid start inc) == 0)
 
--- whether an axis may have these limits, this increment and this start
-unfoldable pub is_axis_range : Limits → ℤ → ℤ → Bool
-is_axis_range l inc start =
+-- whether z is a whole number of increments
+abbrev pub is_whole : ℤ → ℤ → Bool
+is_whole z inc = unsigned_abs (int_rem_euclid z inc) == 0
+
+-- whether the ends of an axis's travel, its increment and its start are in range
+unfoldable pub is_travel : Limits → ℤ → ℤ → Bool
+is_travel l inc start =
     are_places l && are_speeds l && is_between (pos 1) inc (pos MOST_INCREMENT) &&
     has_counts l inc && is_start l inc start
 
+-- how many steps of a size reach as far as this, rounded up
+abbrev pub steps_of : ℕ → ℕ → ℕ
+steps_of way size = (way + size - 1) / size
+
+-- the way in which an axis comes to rest from its greatest step
+abbrev pub braking_way : Limits → ℕ
+braking_way l = run_of (unsigned_abs l.vmax) (unsigned_abs l.dmax)
+
+-- what that way is longer by where no change of acceleration is greater than jmax, at most
+abbrev pub jerk_way : Limits → ℕ → ℕ
+jerk_way l jmax =
+    unsigned_abs l.vmax *
+    (steps_of (unsigned_abs l.amax) jmax + 2 * steps_of (unsigned_abs l.dmax) jmax + 2)
+
+-- whether an axis that turns for ever stays in range for two turns and while it comes to rest
+abbrev pub has_turns : Limits → ℕ → Bool
+has_turns l jmax =
+    nat_le (braking_way l + 2 * unsigned_abs l.hi + (if jmax == 0 then 0 else jerk_way l jmax))
+    MOST_PLACE
+
+-- whether the turn of an axis is one: it is a whole number of increments, 2^31 at most, and the
+-- greatest step is less than half of it
+abbrev pub is_turn : ℤ → ℤ → ℤ → Bool
+is_turn turn vmax inc =
+    is_whole turn inc && int_lt (pos 2 *ℤ vmax) turn && int_le turn (pos (2 ^ 31) *ℤ inc)
+
+-- whether the start is a whole number of increments within a turn
+abbrev pub is_turn_start : ℤ → ℤ → ℤ → Bool
+is_turn_start turn inc start =
+    is_whole start inc && int_le (pos 0) start && int_lt start turn
+
+-- whether the turn of an axis that turns for ever, its increment and its start are in range
+unfoldable pub is_turning : Limits → ℤ → ℤ → ℤ → Bool
+is_turning l inc start jmax =
+    int_eq l.lo (pos 0) && are_speeds l && is_between (pos 1) inc (pos MOST_INCREMENT) &&
+    is_turn l.hi l.vmax inc && has_turns l (unsigned_abs jmax) && is_turn_start l.hi inc start
+
+-- whether a greatest change of acceleration is in range, or there is none
+abbrev pub is_jmax : ℤ → Bool
+is_jmax jmax = int_eq jmax (pos 0) || is_between (pos 2) jmax (pos MOST_STEP)
+
+-- whether an axis may have these limits, this increment, this start and this limit of jerk
+unfoldable pub is_axis_range : Limits → ℤ → ℤ → ℤ → Bool → Bool
+is_axis_range l inc start jmax modulo =
+    is_jmax jmax && (if modulo then is_turning l inc start jmax else is_travel l inc start)
+
 -- whether an axis is in its ranges
 abbrev pub is_axis : AxisDef → Bool
-is_axis d = is_axis_range d.limits d.inc d.start
+is_axis d = is_axis_range d.limits d.inc d.start d.jmax d.modulo
 
 -- whether the task and the axis or group of a block are there, by the numbers of tasks, axes and
 -- groups

@@ -1,14 +1,15 @@
 -- What contracts see of a configuration. This project's profile.
-use Rattle.std.specs.Prelude.{ℕ, ℤ, ◌≤◌, List, ◌++◌, length, map, IsTrue}
+use Rattle.std.specs.Prelude.{ℕ, ◌≤◌, List, ◌++◌, length, map, IsTrue}
 use Rattle.std.specs.List.{AllByRecursion, IsDistinct, list_all}
 use Rattle.std.specs.Str.{bytes_eq}
 use Rattle.plc_types.specs.Names.{is_name}
 use Rattle.plc_types.specs.declared.axis.AxisDef.{AxisDef}
-use Rattle.cam_table.specs.CamTable.{IsCamTable}
+use Rattle.cam_table.specs.CamTable.{Cam, IsCamTable}
 use Rattle.motion_history.specs.declared.sizes.TheConstants.{MOST_AXES, MOST_GROUPS, MOST_TABLES, MOST_TASKS, MOST_BLOCKS, MOST_CYCLES, MOST_ENTRIES}
 use Rattle.motion_history.specs.declared.config.GroupDef.{GroupDef}
 use Rattle.motion_history.specs.declared.config.BlockDef.{BlockDef}
 use Rattle.motion_history.specs.Members.{IsGroup, AreApart}
+use Rattle.motion_history.specs.Built.{is_built_block, is_built_table, is_plain_axis}
 use Rattle.motion_history.specs.Ranges.{is_axis, is_block}
 
 -- a configuration: the items of a machine in the order of their numbers, and the room of its
@@ -16,7 +17,7 @@ use Rattle.motion_history.specs.Ranges.{is_axis, is_block}
 pub record Setup : Type 0 where
   pub axes : List AxisDef
   pub groups : List GroupDef
-  pub tables : List (List (ℤ × ℤ))
+  pub tables : List Cam
   pub tasks : List (List ℕ)
   pub blocks : List BlockDef
   pub cycles : ℕ
@@ -50,15 +51,22 @@ pub record IsWithin (s : Setup) : Type 0 where
   pub axes : IsTrue (list_all is_axis s.axes)
   pub groups : AllByRecursion (IsGroup (length s.axes)) s.groups
   pub apart : AreApart s.groups
-  pub tables : AllByRecursion IsCamTable s.tables
+  pub tables : AllByRecursion (λ (t : Cam). IsCamTable t.points) s.tables
   pub blocks :
       IsTrue (list_all (is_block (length s.tasks) (length s.axes) (length s.groups)) s.blocks)
   pub names : AreNames (names_of s)
   pub sizes : FitsSizes s
 
--- it is whole: it has an axis, a task and a block
+-- nothing is asked for that isn't built yet
+pub record IsBuilt (s : Setup) : Type 0 where
+  pub axes : IsTrue (list_all is_plain_axis s.axes)
+  pub tables : IsTrue (list_all is_built_table s.tables)
+  pub blocks : IsTrue (list_all is_built_block s.blocks)
+
+-- it is whole: it has an axis, a task and a block, and nothing that isn't built
 pub record IsSetup (s : Setup) : Type 0 where
   pub within : IsWithin s
+  pub built : IsBuilt s
   pub some_axis : 1 ≤ length s.axes
   pub some_task : 1 ≤ length s.tasks
   pub some_block : 1 ≤ length s.blocks

@@ -1,22 +1,25 @@
 // Making a configuration item by item.
 
-ghost use Rattle.std.specs.Prelude.{◌≡◌, ◌↔◌, ◌≢◌, ◌<◌, if◌then◌else◌, Some, Err, ◌+◌, ◌++◌, ◌∷◌, [], IfOk, IfErr, OnErr, OnOk, None, length};
+ghost use Rattle.std.specs.Prelude.{◌≡◌, ◌↔◌, ◌≢◌, ◌<◌, if◌then◌else◌, Some, Err, ◌+◌, ◌++◌, ◌∷◌, [], IfOk, OnErr, OnOk, length};
 ghost use Rattle.cam_table.specs.CamTable.{IsCamTable};
 ghost use Rattle.motion_history.specs.Setup.{Setup, IsSetup, IsWithin};
 ghost use Rattle.motion_history.specs.Items.{setup_of};
 ghost use Rattle.motion_history.specs.Faults as faults;
 ghost use Rattle.motion_history.specs.Faults.{FaultsBy, IsTableFault};
 ghost use Rattle.motion_history.specs.Members as members;
+ghost use Rattle.motion_history.specs.declared.fault.ConfigFault.{ConfigFault};
 
-use crate::axes::axis_fault;
+use crate::axes::{AxisParameters, axis_fault, axis_of};
 use crate::blocks::{block_fault, task_fault};
+use crate::built::asks_for_built;
 use crate::config::{BlockDef, Config, Items};
 use crate::fault::ConfigFault;
 use crate::groups::{group_fault, group_of};
 use crate::names::name_fault;
 use crate::sizes::{MOST_TABLES, is_room};
 use crate::tables::new_table;
-use plc_types::{AxisDef, BlockKind, Limits, Name};
+use cam_table::Sort;
+use plc_types::{BlockKind, Name};
 use std::alloc::Global;
 use std::marker::Model;
 
@@ -95,38 +98,27 @@ impl Builder {
     }
 
     /// Adds an axis and answers its number.
-    pub fn axis(
-        &mut self,
-        name: &[u8],
-        limits: &Limits,
-        inc: i64,
-        start: i64,
-        ready: bool,
-    ) -> Result<u8, ConfigFault>
+    pub fn axis(&mut self, name: &[u8], parameters: &AxisParameters) -> Result<u8, ConfigFault>
         ensures number { IfOk result (λ n. n ≡ length self.old.axes) }
         ensures ok { OnOk result (self.new ≡ record self.old {
           axes = self.old.axes ++ record {
             name = name.now;
-            limits = limits.now;
-            inc = inc;
-            start = start;
-            ready = ready;
+            limits = parameters.now.limits;
+            inc = parameters.now.inc;
+            start = parameters.now.start;
+            ready = parameters.now.ready;
+            jmax = parameters.now.jmax;
+            modulo = parameters.now.modulo;
           } ∷ [];
         }) }
-        ensures faults { FaultsBy (faults.axis_fault self.old name.now limits.now inc start) result }
+        ensures faults { FaultsBy (faults.axis_fault self.old name.now parameters.now) result }
         ensures unchanged { OnErr result (self.new ≡ self.old) }
     {
-        if let Some(fault) = axis_fault(&self.items, name, limits, inc, start) {
+        if let Some(fault) = axis_fault(&self.items, name, parameters) {
             return Err(fault);
         }
         let number = self.items.axes.len() as u8;
-        self.items.axes.push(AxisDef {
-            name: Name::new(name),
-            limits: *limits,
-            inc,
-            start,
-            ready,
-        })?;
+        self.items.axes.push(axis_of(Name::new(name), parameters))?;
         Ok(number)
     }
 
@@ -148,10 +140,15 @@ impl Builder {
     }
 
     /// Adds a cam table and answers its number, counted from 1.
-    pub fn table(&mut self, alloc: Global, points: &[(i64, i64)]) -> Result<u16, ConfigFault>
+    pub fn table(
+        &mut self,
+        alloc: Global,
+        sort: Sort,
+        points: &[(i64, i64)],
+    ) -> Result<u16, ConfigFault>
         ensures number { IfOk result (λ n. n ≡ length self.new.tables) }
         ensures ok { OnOk result (self.new ≡ record self.old {
-          tables = self.old.tables ++ points.now ∷ [];
+          tables = self.old.tables ++ record { sort = sort; points = points.now } ∷ [];
         }) }
         ensures table { OnOk result (IsCamTable points.now) }
         ensures room { OnOk result (length self.old.tables < MOST_TABLES) }
@@ -159,7 +156,7 @@ impl Builder {
             (result ≡ Err fault) ↔ IsTableFault self.old points.now fault }
         ensures unchanged { OnErr result (self.new ≡ self.old) }
     {
-        let table = match new_table(alloc, points, self.items.tables.len()) {
+        let table = match new_table(alloc, sort, points, self.items.tables.len()) {
             Ok(table) => table,
             Err(fault) => return Err(fault),
         };
@@ -221,23 +218,23 @@ impl Builder {
     pub fn finish(self) -> Result<Config, ConfigFault>
         ensures ok { IfOk result (λ c. c ≡ self) }
         ensures setup { IfOk result (λ c. IsSetup c) }
-        ensures faults { (result ≡ Err ConfigFault.TooFew) ↔
-            (faults.whole_fault self ≡ Some ConfigFault.TooFew) }
-        ensures only { IfErr result (λ e. e ≡ ConfigFault.TooFew) }
+        ensures faults { (fault : ConfigFault) → (result ≡ Err fault) ↔
+            (faults.whole_fault self ≡ Some fault) }
     {
         let Builder { items } = self;
-        if is_whole(&items) {
-            Ok(Config { items })
-        } else {
-            Err(ConfigFault::TooFew)
+        if !has_items(&items) {
+            return Err(ConfigFault::TooFew);
         }
+        if !asks_for_built(&items) {
+            return Err(ConfigFault::NotBuilt);
+        }
+        Ok(Config { items })
     }
 }
 
 // Whether there is an axis, a task and a block.
-fn is_whole(items: &Items) -> bool
-    ensures { faults.whole_fault (setup_of items.now) ≡
-        (if result then None else Some ConfigFault.TooFew) }
+fn has_items(items: &Items) -> bool
+    ensures { result ≡ faults.has_items (setup_of items.now) }
 {
     1 <= items.axes.len() && 1 <= items.tasks.len() && 1 <= items.blocks.len()
 }

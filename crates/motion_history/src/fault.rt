@@ -13,7 +13,8 @@ pub enum ConfigFault {
     /// An axis, a group, a task or a block has the name.
     #[error("the name is used")]
     NameUsed,
-    /// An axis, a group or a task with that number isn't there, or the axis is in a group already.
+    /// An axis, a group or a task with that number isn't there, or the axis is in a group already
+    /// or turns for ever.
     #[error("no such axis, group or task is free")]
     NameUnknown,
     /// A number is outside its range.
@@ -28,6 +29,10 @@ pub enum ConfigFault {
     /// The group has fewer than 2 axes, or the configuration has no axis, no task or no block.
     #[error("there are too few")]
     TooFew,
+    /// The configuration asks for what isn't built yet: a limit of jerk, an axis that turns for
+    /// ever, a cam table that isn't plain, or a block GearInPos, SetOverride or GroupSetOverride.
+    #[error("jmax, modulo, once, periodic, GearInPos, SetOverride and GroupSetOverride aren't built")]
+    NotBuilt,
     /// No memory for an item that has no other fault.
     #[error("out of memory")]
     OutOfMemory,

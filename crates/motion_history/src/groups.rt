@@ -1,6 +1,6 @@
 // When axes may form a group of a configuration.
 
-ghost use Rattle.std.specs.Prelude.{◌≡◌, ◌≤◌, ◌&&◌, IsTrue, length, nat_eq, nat_lt, not};
+ghost use Rattle.std.specs.Prelude.{◌≡◌, ◌≤◌, ◌&&◌, IsTrue, length, nat_eq, not};
 ghost use Rattle.std.specs.List.{list_all, list_any};
 ghost use Rattle.plc_types.specs.Names as names;
 ghost use Rattle.motion_history.specs.Faults as faults;
@@ -11,7 +11,7 @@ use crate::config::{GroupDef, Items};
 use crate::fault::ConfigFault;
 use crate::names::name_fault;
 use crate::sizes::{MOST_GROUPS, MOST_MEMBERS};
-use plc_types::Name;
+use plc_types::{AxisDef, Name};
 
 /// Why a group is refused.
 #[tactic(auto, unfolding(crate::specs::Faults::group_fault))]
@@ -21,7 +21,7 @@ pub fn group_fault(items: &Items, name: &[u8], axes: &[u8]) -> Option<ConfigFaul
     if let Some(fault) = name_fault(items, name) {
         return Some(fault);
     }
-    if !are_free(items.axes.len(), items.groups.as_slice(), axes) {
+    if !are_free(items.axes.as_slice(), items.groups.as_slice(), axes) {
         Some(ConfigFault::NameUnknown)
     } else if items.groups.len() >= MOST_GROUPS || axes.len() > MOST_MEMBERS {
         Some(ConfigFault::TooMany)
@@ -32,26 +32,37 @@ pub fn group_fault(items: &Items, name: &[u8], axes: &[u8]) -> Option<ConfigFaul
     }
 }
 
-// Whether the axes are there, are in no group, and none comes twice.
-fn are_free(axes: usize, groups: &[GroupDef], new: &[u8]) -> bool
-    ensures { result ≡ faults.are_free axes groups.now new.now }
+// Whether the axes are there and may join a group, are in none, and none comes twice.
+fn are_free(axes: &[AxisDef], groups: &[GroupDef], new: &[u8]) -> bool
+    ensures { result ≡ faults.are_free axes.now groups.now new.now }
 {
     are_single(axes, groups, new) && are_distinct(new)
 }
 
-// Whether the axes are there and are in no group.
-fn are_single(axes: usize, groups: &[GroupDef], new: &[u8]) -> bool
-    ensures { result ≡
-        list_all (λ axis. nat_lt axis axes && not (faults.is_member groups.now axis)) new.now }
+// Whether the axes are there, may join a group and are in none.
+fn are_single(axes: &[AxisDef], groups: &[GroupDef], new: &[u8]) -> bool
+    ensures { result ≡ list_all
+        (λ axis. faults.may_join axes.now axis && not (faults.is_member groups.now axis)) new.now }
 {
     new.iter().all(|axis| is_single(axes, groups, *axis))
 }
 
-// Whether an axis is there and is in no group.
-fn is_single(axes: usize, groups: &[GroupDef], axis: u8) -> bool
-    ensures { result ≡ (nat_lt axis axes && not (faults.is_member groups.now axis)) }
+// Whether an axis is there, may join a group and is in none.
+fn is_single(axes: &[AxisDef], groups: &[GroupDef], axis: u8) -> bool
+    ensures { result ≡
+        (faults.may_join axes.now axis && not (faults.is_member groups.now axis)) }
 {
-    (axis as usize) < axes && !is_member(groups, axis)
+    may_join(axes, axis) && !is_member(groups, axis)
+}
+
+// Whether an axis is there that doesn't turn for ever.
+fn may_join(axes: &[AxisDef], axis: u8) -> bool
+    ensures { result ≡ faults.may_join axes.now axis }
+{
+    match axes.get(axis as usize) {
+        Some(axis) => !axis.modulo,
+        None => false,
+    }
 }
 
 // Whether an axis is in a group.

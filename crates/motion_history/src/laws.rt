@@ -5,13 +5,13 @@ ghost use Rattle.plc_types.specs.declared.axis.AxisDef.{AxisDef};
 ghost use Rattle.motion_history.specs.AxisRanges.{AreAxisRanges};
 ghost use Rattle.motion_history.specs.Configurations.{IsSound};
 ghost use Rattle.motion_history.specs.Entries.{CyclesAddUp, Entry, cycles_of};
-ghost use Rattle.motion_history.specs.Ranges.{is_axis};
+ghost use Rattle.motion_history.specs.Built.{is_plain_axis};
 ghost use Rattle.motion_history.specs.Setup.{Setup, IsSetup};
 
-/// An axis that passes the tests has limits in their ranges, a start that is a multiple of its
+/// An axis that passes the tests and doesn't turn for ever has limits in their ranges, a start that is a multiple of its
 /// increment within them, and places whose counts have 32 bits.
 pub fn axes_are_in_range()
-    ensures ranges { (d : AxisDef) → IsTrue (is_axis d) → AreAxisRanges d }
+    ensures ranges { (d : AxisDef) → IsTrue (is_plain_axis d) → AreAxisRanges d }
 {}
 
 /// What every configuration keeps: its axes, groups, cam tables and blocks are in their ranges and

@@ -8,6 +8,7 @@ mod axes;
 mod bits;
 mod blocks;
 mod builder;
+mod built;
 mod config;
 mod drives;
 mod entry;
@@ -23,8 +24,9 @@ mod sizes;
 mod tables;
 mod touching;
 
+pub use axes::AxisParameters;
 pub use builder::Builder;
-pub use cam_table::{CamFault, CamTable};
+pub use cam_table::{CamFault, CamTable, Sort};
 pub use config::{BlockDef, Config, GroupDef};
 pub use drives::{DriveDef, DriveDefs, FaultList};
 pub use entry::{CycleLook, EntryLook};
@@ -34,8 +36,8 @@ pub use history::History;
 pub use laws::{axes_are_in_range, configurations_are_sound, cycles_add_up};
 pub use motion_numbers::OutOfMemory;
 pub use plc_types::{
-    AxisDef, AxisRow, AxisState, BlockKind, BufferMode, DriveIn, DriveOut, GroupRow, GroupState,
-    Inputs, Limits, Name, Outputs,
+    AxisDef, AxisRow, AxisState, BlockKind, BufferMode, Direction, DriveIn, DriveOut, GroupRow,
+    GroupState, Inputs, Limits, Name, Outputs,
 };
 pub use refused::{Rule, TextFault, TextRefused, TraceVersion};
 pub use shown::{axis_name, name_text};

@@ -7,18 +7,19 @@ ghost use Rattle.motion_history.specs.declared.fault.ConfigFault.{ConfigFault};
 
 use crate::fault::ConfigFault;
 use crate::sizes::MOST_TABLES;
-use cam_table::{CamFault, CamTable, points_have_one_fault};
+use cam_table::{CamFault, CamTable, Sort, points_have_one_fault};
 use motion_numbers::OutOfMemory;
 use std::alloc::Global;
 
-/// The table of these points, as one more beside this many.
+/// The table of this sort and these points, as one more beside this many.
 pub fn new_table(
     alloc: Global,
+    sort: Sort,
     points: &[(i64, i64)],
     tables: usize,
 ) -> Result<CamTable, ConfigFault>
-    ensures ok { IfOk result (λ table. table ≡ points.now) }
-    ensures table { IfOk result (λ table. IsCamTable table) }
+    ensures ok { IfOk result (λ table. table ≡ record { sort = sort; points = points.now }) }
+    ensures table { IfOk result (λ table. IsCamTable table.points) }
     ensures room { IfOk result (λ table. tables < MOST_TABLES) }
     ensures faults { (fault : ConfigFault) → fault ≢ ConfigFault.OutOfMemory →
         (result ≡ Err fault) ↔ IsPointsFault tables points.now fault }
@@ -26,7 +27,7 @@ pub fn new_table(
     // laws
     points_have_one_fault();
     let full = tables >= MOST_TABLES;
-    match CamTable::new(alloc, points) {
+    match CamTable::new(alloc, sort, points) {
         Ok(table) => {
             if full {
                 Err(ConfigFault::TooMany)
@@ -62,7 +63,7 @@ pub fn copied_tables(alloc: Global, tables: &[CamTable]) -> Result<Vec<CamTable>
 {
     let mut copies = Vec::with_capacity(alloc, tables.len())?;
     for table in tables {
-        let Ok(copy) = CamTable::new(alloc, table.points()) else {
+        let Ok(copy) = CamTable::new(alloc, table.sort(), table.points()) else {
             return Err(OutOfMemory);
         };
         copies.push_reserved(copy);

@@ -1,4 +1,4 @@
--- Each kind and each mode has a name of its own.
+-- Each kind, each mode and each direction has a name of its own.
 -- for: names_are_read_back
 use Rattle.std.proofs.Common.{◌≡◌, ◌≤◌, ℕ, true, None, refl, Some, ◌∙◌, ap}
 use Rattle.std.proofs.lemmas.Bool.{le-leb}
@@ -7,7 +7,9 @@ use Rattle.plc_types.specs.declared.kind.BlockKind.{BlockKind}
 use Rattle.plc_types.specs.declared.kind.BlockKind.TheVariants as kind
 use Rattle.plc_types.specs.declared.kind.BufferMode.{BufferMode}
 use Rattle.plc_types.specs.declared.kind.BufferMode.TheVariants as mode
-use Rattle.plc_types.specs.KindNames.{first_version, kind_in, kind_name, kind_named, kind_of_version, mode_name, mode_named}
+use Rattle.plc_types.specs.declared.kind.Direction.{Direction}
+use Rattle.plc_types.specs.declared.kind.Direction.TheVariants as direction
+use Rattle.plc_types.specs.KindNames.{direction_name, direction_named, first_version, kind_in, kind_name, kind_named, kind_of_version, mode_name, mode_named}
 
 pub kind_named-kind_name : (k : BlockKind) → kind_named (kind_name k) ≡ Some k
 unfolding kind_name kind_named
@@ -24,3 +26,8 @@ pub mode_named-mode_name : (m : BufferMode) → mode_named (mode_name m) ≡ Som
 unfolding mode_name mode_named
 mode_named-mode_name mode.Aborting = refl
 mode_named-mode_name _ = refl
+
+pub direction_named-direction_name : (d : Direction) → direction_named (direction_name d) ≡ Some d
+unfolding direction_name direction_named
+direction_named-direction_name direction.Shortest = refl
+direction_named-direction_name _ = refl

@@ -2,6 +2,7 @@
 use Rattle.std.specs.Prelude.{◌≡◌, ◌≤◌, ℕ, ℤ, Bool, false, pos, List, slice_index_or}
 use Rattle.plc_types.specs.declared.kind.BlockKind.{BlockKind}
 use Rattle.plc_types.specs.declared.kind.BufferMode.TheVariants.{Aborting}
+use Rattle.plc_types.specs.declared.kind.Direction.TheVariants.{Shortest}
 use Rattle.plc_types.specs.Inputs.{IsTaken, takes}
 use Rattle.plc_types.specs.declared.inputs.Input.TheVariants as input
 use Rattle.plc_types.specs.declared.inputs.Inputs.{Inputs}
@@ -21,9 +22,10 @@ pub record AreBrakes (k : BlockKind) (i : Inputs) : Type 0 where
   pub deceleration : IsTaken (takes k input.Deceleration) (pos 0) i.deceleration
   pub jerk : IsTaken (takes k input.Jerk) (pos 0) i.jerk
 
--- the mode of a kind, and its master with its gear and its table. This project's profile
+-- the mode and the direction of a kind, and its master with its ratio and its table. This project's profile
 pub record AreOthers (k : BlockKind) (i : Inputs) : Type 0 where
   pub mode : takes k input.Mode ≡ false → i.mode ≡ Aborting
+  pub direction : takes k input.Direction ≡ false → i.direction ≡ Shortest
   pub master : takes k input.Master ≡ false → i.master ≡ 0
   pub numerator : IsTaken (takes k input.Numerator) (pos 1) i.numerator
   pub denominator : IsTaken (takes k input.Denominator) (pos 1) i.denominator

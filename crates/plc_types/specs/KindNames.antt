@@ -1,4 +1,4 @@
--- The names of kinds of function block and of buffer modes, as texts have them.
+-- The names of kinds of function block, of buffer modes and of directions, as texts have them.
 use Rattle.std.specs.Prelude.{◌≡◌, ◌≤◌, ℕ, List, codes, if◌then◌else◌, nat_le, Option, Some, None}
 use Rattle.std.specs.List.{find}
 use Rattle.std.specs.Str.{bytes_eq}
@@ -6,7 +6,9 @@ use Rattle.plc_types.specs.declared.kind.BlockKind.{BlockKind}
 use Rattle.plc_types.specs.declared.kind.BlockKind.TheVariants as kind
 use Rattle.plc_types.specs.declared.kind.BufferMode.{BufferMode}
 use Rattle.plc_types.specs.declared.kind.BufferMode.TheVariants as mode
-use Rattle.plc_types.specs.declared.kind_names.TheConstants.{KINDS, MODES}
+use Rattle.plc_types.specs.declared.kind.Direction.{Direction}
+use Rattle.plc_types.specs.declared.kind.Direction.TheVariants as direction
+use Rattle.plc_types.specs.declared.kind_names.TheConstants.{DIRECTIONS, KINDS, MODES}
 
 -- the names of the kinds of function block. PLCopen Motion Control Part 1 and Part 4
 unfoldable pub kind_name : BlockKind → List ℕ
@@ -30,6 +32,9 @@ kind_name kind.GroupHalt = codes "GroupHalt"
 kind_name kind.MoveLinearAbsolute = codes "MoveLinearAbsolute"
 kind_name kind.MoveCircularAbsolute = codes "MoveCircularAbsolute"
 kind_name kind.MoveAdditive = codes "MoveAdditive"
+kind_name kind.GearInPos = codes "GearInPos"
+kind_name kind.SetOverride = codes "SetOverride"
+kind_name kind.GroupSetOverride = codes "GroupSetOverride"
 
 -- the kind of this name. PLCopen Motion Control Part 1 and Part 4
 unfoldable pub kind_named : List ℕ → Option BlockKind
@@ -38,6 +43,9 @@ kind_named name = find (λ k. bytes_eq (kind_name k) name) KINDS
 -- the first version of the texts that has a kind. This project's profile
 abbrev pub first_version : BlockKind → ℕ
 first_version kind.MoveAdditive = 3
+first_version kind.GearInPos = 3
+first_version kind.SetOverride = 3
+first_version kind.GroupSetOverride = 3
 first_version _ = 1
 
 -- a kind, where a version of the texts has it
@@ -62,8 +70,19 @@ mode_name mode.BlendingHigh = codes "blendingHigh"
 unfoldable pub mode_named : List ℕ → Option BufferMode
 mode_named name = find (λ m. bytes_eq (mode_name m) name) MODES
 
+-- the names of the directions. PLCopen Motion Control Part 1, the input Direction
+unfoldable pub direction_name : Direction → List ℕ
+direction_name direction.Shortest = codes "shortest"
+direction_name direction.Positive = codes "positive"
+direction_name direction.Negative = codes "negative"
+
+-- the direction of this name. PLCopen Motion Control Part 1, the input Direction
+unfoldable pub direction_named : List ℕ → Option Direction
+direction_named name = find (λ d. bytes_eq (direction_name d) name) DIRECTIONS
+
 -- each name is read as what it names
 pub record AreNamed : Type 0 where
   pub kinds : (k : BlockKind) → kind_named (kind_name k) ≡ Some k
   pub versions : (v : ℕ) (k : BlockKind) → first_version k ≤ v → kind_in v (kind_name k) ≡ Some k
   pub modes : (m : BufferMode) → mode_named (mode_name m) ≡ Some m
+  pub directions : (d : Direction) → direction_named (direction_name d) ≡ Some d

@@ -12,4 +12,5 @@ acts_on_group kind.GroupStop = true
 acts_on_group kind.GroupHalt = true
 acts_on_group kind.MoveLinearAbsolute = true
 acts_on_group kind.MoveCircularAbsolute = true
+acts_on_group kind.GroupSetOverride = true
 acts_on_group _ = false

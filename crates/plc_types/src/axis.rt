@@ -16,6 +16,11 @@ pub struct AxisDef {
     pub start: i64,
     /// Whether the axis opens in Standstill, driven and with power on.
     pub ready: bool,
+    /// The greatest change of acceleration per cycle, for commands with a Jerk, 2 to 10^10, in
+    /// internal units per cycle per cycle per cycle; 0 where no command may have one.
+    pub jmax: i64,
+    /// Whether the axis turns for ever: its coordinate is 0 to `hi`, which is one turn.
+    pub modulo: bool,
 }
 
 /// What a cycle shows of an axis.

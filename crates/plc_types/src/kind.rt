@@ -26,6 +26,9 @@ pub enum BlockKind {
     MoveLinearAbsolute,
     MoveCircularAbsolute,
     MoveAdditive,
+    GearInPos,
+    SetOverride,
+    GroupSetOverride,
 }
 
 impl BlockKind {
@@ -44,8 +47,21 @@ impl BlockKind {
                 | BlockKind::GroupHalt
                 | BlockKind::MoveLinearAbsolute
                 | BlockKind::MoveCircularAbsolute
+                | BlockKind::GroupSetOverride
         )
     }
+}
+
+/// In which direction an absolute move goes on an axis that turns for ever (PLCopen Motion Control
+/// Part 1, the input Direction). Other axes don't look at it.
+#[derive(Clone, Copy, Debug, PartialEq, Eq)]
+pub enum Direction {
+    /// To the nearest place that is the target, of two upward.
+    Shortest,
+    /// Upward.
+    Positive,
+    /// Downward.
+    Negative,
 }
 
 /// How a command joins those before it (PLCopen Motion Control Part 1, the input BufferMode).

@@ -5,8 +5,8 @@ ghost use Rattle.plc_types.specs.InputParts.{AreBrakes, AreOthers, ArePositions,
 ghost use Rattle.plc_types.specs.Inputs.{AreInputs, IsTaken};
 ghost use Rattle.plc_types.specs.Inputs as spec;
 
-use crate::inputs::{Input, Inputs, takes};
-use crate::kind::{BlockKind, BufferMode};
+use crate::inputs::{Input, Inputs, position_count, takes};
+use crate::kind::{BlockKind, BufferMode, Direction};
 use motion_numbers::MOST_NUMBER;
 
 /// Whether inputs are those of a kind of block that acts on this many axes: what its caller must
@@ -17,7 +17,11 @@ pub fn are_inputs(kind: BlockKind, axes: u8, inputs: &Inputs) -> bool
     are_rates(kind, inputs)
         && are_brakes(kind, inputs)
         && are_others(kind, inputs)
-        && are_positions(takes(kind, Input::Position), axes, &inputs.positions)
+        && are_positions(
+            takes(kind, Input::Position),
+            position_count(kind, axes),
+            &inputs.positions,
+        )
 }
 
 // Whether an input has its default, which is small, or the kind takes it and it is at most 10^18 in
@@ -68,12 +72,13 @@ fn are_brakes(kind: BlockKind, inputs: &Inputs) -> bool
         && is_taken(kind, Input::Jerk, 0, inputs.jerk)
 }
 
-// Whether the mode, and the master with its gear and its table, are so.
+// Whether the mode and the direction, and the master with its ratio and its table, are so.
 fn are_others(kind: BlockKind, inputs: &Inputs) -> bool
     ensures yes { IsTrue result → AreOthers kind inputs.now }
     ensures no { AreOthers kind inputs.now → IsTrue result }
 {
     (is_aborting(inputs.mode) || takes(kind, Input::Mode))
+        && (is_shortest(inputs.direction) || takes(kind, Input::Direction))
         && (inputs.master == 0 || takes(kind, Input::Master))
         && is_taken(kind, Input::Numerator, 1, inputs.numerator)
         && is_taken(kind, Input::Denominator, 1, inputs.denominator)
@@ -85,4 +90,11 @@ fn is_aborting(mode: BufferMode) -> bool
     ensures { IsTrue result ↔ (mode ≡ BufferMode.Aborting) }
 {
     matches!(mode, BufferMode::Aborting)
+}
+
+// Whether a direction is Shortest.
+fn is_shortest(direction: Direction) -> bool
+    ensures { IsTrue result ↔ (direction ≡ Direction.Shortest) }
+{
+    matches!(direction, Direction::Shortest)
 }

@@ -1,12 +1,12 @@
-// The names of kinds of function block and of buffer modes, as texts have them.
+// The names of kinds of function block, of buffer modes and of directions, as texts have them.
 
 ghost use Rattle.std.specs.Prelude.{◌≡◌};
 ghost use Rattle.plc_types.specs.KindNames as spec;
 
-use crate::kind::{BlockKind, BufferMode};
+use crate::kind::{BlockKind, BufferMode, Direction};
 
 /// The kinds of function block; those that came with version 3 of the texts stand last.
-pub const KINDS: [BlockKind; 20] = [
+pub const KINDS: [BlockKind; 23] = [
     BlockKind::Power,
     BlockKind::Reset,
     BlockKind::Home,
@@ -27,6 +27,9 @@ pub const KINDS: [BlockKind; 20] = [
     BlockKind::MoveLinearAbsolute,
     BlockKind::MoveCircularAbsolute,
     BlockKind::MoveAdditive,
+    BlockKind::GearInPos,
+    BlockKind::SetOverride,
+    BlockKind::GroupSetOverride,
 ];
 
 /// The buffer modes.
@@ -37,6 +40,13 @@ pub const MODES: [BufferMode; 6] = [
     BufferMode::BlendingPrevious,
     BufferMode::BlendingNext,
     BufferMode::BlendingHigh,
+];
+
+/// The directions.
+pub const DIRECTIONS: [Direction; 3] = [
+    Direction::Shortest,
+    Direction::Positive,
+    Direction::Negative,
 ];
 
 /// The name of a kind of function block.
@@ -65,6 +75,9 @@ pub fn kind_name(kind: BlockKind) -> &'static str
         BlockKind::MoveLinearAbsolute => "MoveLinearAbsolute",
         BlockKind::MoveCircularAbsolute => "MoveCircularAbsolute",
         BlockKind::MoveAdditive => "MoveAdditive",
+        BlockKind::GearInPos => "GearInPos",
+        BlockKind::SetOverride => "SetOverride",
+        BlockKind::GroupSetOverride => "GroupSetOverride",
     }
 }
 
@@ -84,7 +97,10 @@ pub fn first_version(kind: BlockKind) -> u8
     ensures { result ≡ spec.first_version kind }
 {
     match kind {
-        BlockKind::MoveAdditive => 3,
+        BlockKind::MoveAdditive
+        | BlockKind::GearInPos
+        | BlockKind::SetOverride
+        | BlockKind::GroupSetOverride => 3,
         _ => 1,
     }
 }
@@ -122,5 +138,28 @@ pub fn mode_named(name: &[u8]) -> Option<BufferMode>
     MODES
         .iter()
         .find(|mode| mode_name(**mode).as_bytes() == name)
+        .copied()
+}
+
+/// The name of a direction.
+#[tactic(auto, unfolding(crate::specs::KindNames::direction_name))]
+pub fn direction_name(direction: Direction) -> &'static str
+    ensures { result.now ≡ spec.direction_name direction }
+{
+    match direction {
+        Direction::Shortest => "shortest",
+        Direction::Positive => "positive",
+        Direction::Negative => "negative",
+    }
+}
+
+/// The direction of this name.
+#[tactic(auto, unfolding(crate::specs::KindNames::direction_named))]
+pub fn direction_named(name: &[u8]) -> Option<Direction>
+    ensures { result ≡ spec.direction_named name.now }
+{
+    DIRECTIONS
+        .iter()
+        .find(|direction| direction_name(**direction).as_bytes() == name)
         .copied()
 }

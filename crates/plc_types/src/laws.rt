@@ -8,7 +8,8 @@ ghost use Rattle.plc_types.specs.KindNames.{AreNamed};
 
 use motion_numbers::{MOST_INCREMENT, MOST_PLACE};
 
-/// The name of a kind of block or of a buffer mode is read as that kind or mode.
+/// The name of a kind of block, of a buffer mode or of a direction is read as that kind, mode or
+/// direction.
 pub fn names_are_read_back()
     ensures named { AreNamed }
 {}

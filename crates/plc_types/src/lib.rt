@@ -26,11 +26,12 @@ pub use count::{MOST_COUNTED, MOST_OFFSET, MOST_REPORTED, place, target_count};
 pub use drive::{CYCLIC_SYNCHRONOUS_POSITION, DriveIn, DriveOut, DriveState, NO_ANSWER, NO_OUTPUT};
 pub use flag::{Flag, flag_named, is_shown};
 pub use group::{GroupRow, GroupState};
-pub use inputs::{INPUTS_OFF, Input, Inputs, takes};
-pub use kind::{BlockKind, BufferMode};
+pub use inputs::{INPUTS_OFF, Input, Inputs, position_count, takes, takes_in};
+pub use kind::{BlockKind, BufferMode, Direction};
 pub use kind_inputs::are_inputs;
 pub use kind_names::{
-    KINDS, MODES, first_version, kind_in, kind_name, kind_named, mode_name, mode_named,
+    DIRECTIONS, KINDS, MODES, direction_name, direction_named, first_version, kind_in, kind_name,
+    kind_named, mode_name, mode_named,
 };
 pub use laws::{
     counts_are_read_back, homing_keeps_counts, names_are_read_back, offsets_are_small,

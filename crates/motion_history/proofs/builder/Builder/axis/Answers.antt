@@ -6,10 +6,10 @@ use Rattle.motion_history.proofs.SetupLemmas.{IsWithin-axis}
 use Rattle.motion_history.proofs.builder.Builder.axis.Goals as goal
 
 pub new-requires : goal.new-requires
-new-requires c = (axis_fault-none _ _ _ _ _ (sym c.axis_fault.ensures ∙ c.in_default.is)).name_is.named
+new-requires c = (axis_fault-none _ _ _ (sym c.axis_fault.ensures ∙ c.in_default.is)).name_is.named
 
 pub invariant_of-self-2 : goal.invariant_of-self-2
 invariant_of-self-2 c =
-    let new : IsNewAxis (setup_of c.self.inside.items) c.args.name.now c.args.limits.now _ _ =
-    axis_fault-none _ _ _ _ _ (sym c.axis_fault.ensures ∙ c.in_default.is) in
-    rw (c.in_ok-push.ensures.items, c.new.ensures) (IsWithin-axis _ _ c.self.invariant new)
+    let new : IsNewAxis (setup_of c.self.inside.items) c.args.name.now _ =
+    axis_fault-none _ _ _ (sym c.axis_fault.ensures ∙ c.in_default.is) in
+    rw (c.in_ok-push.ensures.items, c.axis_of.ensures, c.new.ensures) (IsWithin-axis _ _ c.self.invariant new)
