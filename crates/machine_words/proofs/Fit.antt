@@ -3,17 +3,19 @@
 use Rattle.std.proofs.Common.{◌≡◌, ℕ, ◌<◌, ◌≤◌, ℤ, true, Option, Some, None, Ok, List, length, refl, subst, arith, inl, inr, lit≤}
 use Rattle.std.specs.Prelude.{pos, codes}
 use Rattle.std.proofs.lemmas.Bool.{cases_Bool}
+use Rattle.plc_types.specs.declared.kind.BufferMode.{BufferMode}
 use Rattle.plc_types.specs.declared.kind.BufferMode.TheVariants.{Aborting}
+use Rattle.plc_types.specs.declared.kind.Direction.{Direction}
+use Rattle.plc_types.specs.declared.kind.Direction.TheVariants.{Shortest}
 use Rattle.plc_types.specs.Inputs.{inputs_off, takes}
 use Rattle.plc_types.specs.declared.inputs.Input.TheVariants.{Velocity, Acceleration, Deceleration, Jerk, Numerator, Denominator}
 use Rattle.plc_types.specs.declared.inputs.Inputs.{Inputs}
 use Rattle.line_text.specs.Rules.{broken_unless, in_range}
 use Rattle.line_text.specs.Texts.{says}
-use Rattle.motion_history.specs.Calls.{axes_of}
 use Rattle.motion_history.specs.Setup.{Setup}
 use Rattle.motion_history.specs.declared.config.BlockDef.{BlockDef}
 use Rattle.machine_words.specs.Fit.{AreFit}
-use Rattle.machine_words.specs.Inputs.{are_masters_there, inputs_by, inputs_of, inputs_on, is_off, mode_of, positions_of, value_or}
+use Rattle.machine_words.specs.Inputs.{are_masters_there, direction_of, inputs_by, inputs_of, inputs_on, is_off, mode_of, positions_for, positions_of, value_or}
 use Rattle.machine_words.specs.Keys.{TextsGiven, texts_given}
 use Rattle.machine_words.specs.Names.{axis_at, axis_named}
 use Rattle.machine_words.specs.Numbers.{number}
@@ -37,57 +39,83 @@ table-left o z n h r none =
     let is : z ≡ pos 0 = left-out (pos 0) number o z h none in
     let e : Ok 0 ≡ Ok n = rw is at r in cc
 
+-- the inputs with these values fit their block
+abbrev inputs_with : List ℤ → ℤ → ℤ → ℤ → ℤ → BufferMode → Direction → ℕ → ℤ → ℤ → ℕ → Inputs
+inputs_with ps v a d j m dir master n e table = record {
+  execute = true;
+  positions = ps;
+  velocity = v;
+  acceleration = a;
+  deceleration = d;
+  jerk = j;
+  mode = m;
+  direction = dir;
+  master = master;
+  numerator = n;
+  denominator = e;
+  table = table;
+}
+
+values-fit : AreSmall → (units : Units) → IsUnits units → (s : Setup) (b : BlockDef) (g : TextsGiven) → 1 ≤ length s.axes → AreGivenOf b.kind g →
+    (ps : List ℤ) (v a d j : ℤ) (m : BufferMode) (dir : Direction) (master : ℕ) (n e t : ℤ) (table : ℕ) →
+    value_or no_positions (positions_of units (positions_for s b)) g.position ≡ Ok ps →
+    value_or (pos 0) (velocity_in units) g.velocity ≡ Ok v →
+    value_or (pos 0) (acceleration_in units) g.acceleration ≡ Ok a →
+    value_or (pos 0) (acceleration_in units) g.deceleration ≡ Ok d →
+    value_or (pos 0) (jerk_in units) g.jerk ≡ Ok j →
+    value_or Aborting mode_of g.mode ≡ Ok m →
+    value_or Shortest direction_of g.direction ≡ Ok dir →
+    value_or 0 (axis_named wrong_name s) g.master ≡ Ok master →
+    value_or (pos 1) number g.numerator ≡ Ok n →
+    value_or (pos 1) number g.denominator ≡ Ok e →
+    value_or (pos 0) number g.table ≡ Ok t → in_range 0 65535 out_of_range t ≡ Ok table →
+    AreFit s b (inputs_with ps v a d j m dir master n e table)
+values-fit small units cycle s b g some of ps v a d j m dir master n e t table is_ps is_v is_a is_d is_j is_m is_dir is_master is_n is_e is_t is_table =
+    let positions : ArePositions (positions_for s b) ps = positions-are small units (positions_for s b) g.position ps is_ps in
+    let accelerates = acceleration-small small units cycle in
+    record {
+      inputs = record {
+        positions = λ k. record { left_out = λ none. positions-left units (positions_for s b) g.position ps is_ps (of.position none) k; size = positions.small k };
+        few_positions = positions.few;
+        velocity = number-taken (velocity_in units) (velocity-small small units cycle) (takes b.kind Velocity) (pos 0) g.velocity v (lit≤ tt) of.velocity is_v;
+        acceleration = number-taken (acceleration_in units) accelerates (takes b.kind Acceleration) (pos 0) g.acceleration a (lit≤ tt) of.acceleration is_a;
+        deceleration = number-taken (acceleration_in units) accelerates (takes b.kind Deceleration) (pos 0) g.deceleration d (lit≤ tt) of.deceleration is_d;
+        jerk = number-taken (jerk_in units) (jerk-small small units cycle) (takes b.kind Jerk) (pos 0) g.jerk j (lit≤ tt) of.jerk is_j;
+        mode = λ none. left-out Aborting mode_of g.mode m is_m (of.mode none);
+        direction = λ none. left-out Shortest direction_of g.direction dir is_dir (of.direction none);
+        master = λ none. left-out 0 (axis_named wrong_name s) g.master master is_master (of.master none);
+        numerator = number-taken number (number-small small) (takes b.kind Numerator) (pos 1) g.numerator n (lit≤ tt) of.numerator is_n;
+        denominator = number-taken number (number-small small) (takes b.kind Denominator) (pos 1) g.denominator e (lit≤ tt) of.denominator is_e;
+        table = λ none. table-left g.table t table is_t is_table (of.table none);
+      };
+      master = master-within s g.master master some is_master;
+    }
+
 inputs_of-fit : AreSmall → (units : Units) → IsUnits units → (s : Setup) (b : BlockDef) (g : TextsGiven) (i : Inputs) → 1 ≤ length s.axes → AreGivenOf b.kind g →
-    inputs_of units s (axes_of s b) g ≡ Ok i → AreFit s b i
+    inputs_of units s (positions_for s b) g ≡ Ok i → AreFit s b i
 unfolding inputs_of
 inputs_of-fit small units cycle s b g i some of h =
-    let ps = bind_ok (value_or no_positions (positions_of units (axes_of s b)) g.position) _ i h in
+    let ps = bind_ok (value_or no_positions (positions_of units (positions_for s b)) g.position) _ i h in
     let v = bind_ok (value_or (pos 0) (velocity_in units) g.velocity) _ i ps.2 in
     let a = bind_ok (value_or (pos 0) (acceleration_in units) g.acceleration) _ i v.2 in
     let d = bind_ok (value_or (pos 0) (acceleration_in units) g.deceleration) _ i a.2 in
     let j = bind_ok (value_or (pos 0) (jerk_in units) g.jerk) _ i d.2 in
     let m = bind_ok (value_or Aborting mode_of g.mode) _ i j.2 in
-    let master = bind_ok (value_or 0 (axis_named wrong_name s) g.master) _ i m.2 in
+    let dir = bind_ok (value_or Shortest direction_of g.direction) _ i m.2 in
+    let master = bind_ok (value_or 0 (axis_named wrong_name s) g.master) _ i dir.2 in
     let n = bind_ok (value_or (pos 1) number g.numerator) _ i master.2 in
     let e = bind_ok (value_or (pos 1) number g.denominator) _ i n.2 in
     let t = bind_ok (value_or (pos 0) number g.table) _ i e.2 in
     let table = bind_ok (in_range 0 65535 out_of_range t.0) _ i t.2 in
-    let r : Inputs = record {
-      execute = true;
-      positions = ps.0;
-      velocity = v.0;
-      acceleration = a.0;
-      deceleration = d.0;
-      jerk = j.0;
-      mode = m.0;
-      master = master.0;
-      numerator = n.0;
-      denominator = e.0;
-      table = table.0;
-    } in
+    let r : Inputs = inputs_with ps.0 v.0 a.0 d.0 j.0 m.0 dir.0 master.0 n.0 e.0 table.0 in
     let is : r ≡ i = ok_is (Ok r) r i refl table.2 in
-    let positions : ArePositions (axes_of s b) ps.0 = positions-are small units (axes_of s b) g.position ps.0 ps.1 in
-    let accelerates = acceleration-small small units cycle in
-    subst (λ q. AreFit s b q) is (record {
-      inputs = record {
-        positions = λ k. record { left_out = λ none. positions-left units (axes_of s b) g.position ps.0 ps.1 (of.position none) k; size = positions.small k };
-        few_positions = positions.few;
-        velocity = number-taken (velocity_in units) (velocity-small small units cycle) (takes b.kind Velocity) (pos 0) g.velocity v.0 (lit≤ tt) of.velocity v.1;
-        acceleration = number-taken (acceleration_in units) accelerates (takes b.kind Acceleration) (pos 0) g.acceleration a.0 (lit≤ tt) of.acceleration a.1;
-        deceleration = number-taken (acceleration_in units) accelerates (takes b.kind Deceleration) (pos 0) g.deceleration d.0 (lit≤ tt) of.deceleration d.1;
-        jerk = number-taken (jerk_in units) (jerk-small small units cycle) (takes b.kind Jerk) (pos 0) g.jerk j.0 (lit≤ tt) of.jerk j.1;
-        mode = λ none. left-out Aborting mode_of g.mode m.0 m.1 (of.mode none);
-        master = λ none. left-out 0 (axis_named wrong_name s) g.master master.0 master.1 (of.master none);
-        numerator = number-taken number (number-small small) (takes b.kind Numerator) (pos 1) g.numerator n.0 (lit≤ tt) of.numerator n.1;
-        denominator = number-taken number (number-small small) (takes b.kind Denominator) (pos 1) g.denominator e.0 (lit≤ tt) of.denominator e.1;
-        table = λ none. table-left g.table t.0 table.0 t.1 table.1 (of.table none);
-      };
-      master = master-within s g.master master.0 some master.1;
-    })
+    subst (λ q. AreFit s b q) is
+    (values-fit small units cycle s b g some of ps.0 v.0 a.0 d.0 j.0 m.0 dir.0 master.0 n.0 e.0 t.0 table.0
+    ps.1 v.1 a.1 d.1 j.1 m.1 dir.1 master.1 n.1 e.1 t.1 table.1)
 
 inputs_off-fit : (s : Setup) (b : BlockDef) → 1 ≤ length s.axes → AreFit s b inputs_off
 inputs_off-fit s b some =
-    let positions = no_positions-are (axes_of s b) in
+    let positions = no_positions-are (positions_for s b) in
     record {
       inputs = record {
         positions = λ k. record { left_out = λ none. (no_positions-are 0).few k (omega arith); size = positions.small k };
@@ -97,6 +125,7 @@ inputs_off-fit s b some =
         deceleration = record { left_out = λ none. refl; size = lit≤ tt };
         jerk = record { left_out = λ none. refl; size = lit≤ tt };
         mode = λ none. refl;
+        direction = λ none. refl;
         master = λ none. refl;
         numerator = record { left_out = λ none. refl; size = lit≤ tt };
         denominator = record { left_out = λ none. refl; size = lit≤ tt };
@@ -105,20 +134,20 @@ inputs_off-fit s b some =
       master = omega arith;
     }
 
-inputs_on-fit : AreSmall → (units : Units) (s : Setup) (b : BlockDef) (state : List ℕ) (words : List (List ℕ)) (i : Inputs) → IsUnits units → 1 ≤ length s.axes →
-    inputs_on units s b state words ≡ Ok i → AreFit s b i
+inputs_on-fit : AreSmall → (version : ℕ) (units : Units) (s : Setup) (b : BlockDef) (state : List ℕ) (words : List (List ℕ)) (i : Inputs) → IsUnits units → 1 ≤ length s.axes →
+    inputs_on version units s b state words ≡ Ok i → AreFit s b i
 unfolding inputs_on
-inputs_on-fit small units s b state words i cycle some h =
+inputs_on-fit small version units s b state words i cycle some h =
     let m = bind_ok (broken_unless (are_masters_there s b.kind words) wrong_name) _ i h in
     let on = bind_ok (broken_unless (says state (codes "on")) no_value) _ i m.2 in
-    let given = bind_ok _ (λ g. inputs_of units s (axes_of s b) g) i on.2 in
-    inputs_of-fit small units cycle s b given.0 i some (given-of b.kind words given.0 (found (texts_given b.kind words) no_value given.0 given.1)) given.2
+    let given = bind_ok _ (λ g. inputs_of units s (positions_for s b) g) i on.2 in
+    inputs_of-fit small units cycle s b given.0 i some (given-of version b.kind words given.0 (found (texts_given version b.kind words) no_value given.0 given.1)) given.2
 
 -- the inputs of a call
-pub inputs_by-fit : AreSmall → (units : Units) (s : Setup) (b : BlockDef) (state : List ℕ) (words : List (List ℕ)) (i : Inputs) → IsUnits units → 1 ≤ length s.axes →
-    inputs_by units s b state words ≡ Ok i → AreFit s b i
-inputs_by-fit small units s b state words i cycle some h =
+pub inputs_by-fit : AreSmall → (version : ℕ) (units : Units) (s : Setup) (b : BlockDef) (state : List ℕ) (words : List (List ℕ)) (i : Inputs) → IsUnits units → 1 ≤ length s.axes →
+    inputs_by version units s b state words ≡ Ok i → AreFit s b i
+inputs_by-fit small version units s b state words i cycle some h =
     elim (cases_Bool (is_off state)) [
       | inl off ↦ let e : Ok inputs_off ≡ Ok i = rw off at h in subst (λ q. AreFit s b q) (ok_is (Ok inputs_off) inputs_off i refl e) (inputs_off-fit s b some)
-      | inr on ↦ let e : inputs_on units s b state words ≡ Ok i = rw on at h in inputs_on-fit small units s b state words i cycle some e
+      | inr on ↦ let e : inputs_on version units s b state words ≡ Ok i = rw on at h in inputs_on-fit small version units s b state words i cycle some e
     ]

@@ -5,9 +5,9 @@ use Rattle.std.specs.Prelude.{pos, ◌==◌, cond, replicate, slice_index_or}
 use Rattle.std.specs.List.{slice_split}
 use Rattle.std.proofs.lemmas.Bool.{eqb-true}
 use Rattle.plc_types.specs.declared.kind.BlockKind.{BlockKind}
-use Rattle.plc_types.specs.Inputs.{IsTaken, takes}
+use Rattle.plc_types.specs.Inputs.{IsTaken, takes, takes_in}
 use Rattle.plc_types.specs.declared.inputs.Input.{Input}
-use Rattle.plc_types.specs.declared.inputs.Input.TheVariants.{Position, Velocity, Acceleration, Deceleration, Jerk, Mode, Master, Numerator, Denominator, Table}
+use Rattle.plc_types.specs.declared.inputs.Input.TheVariants.{Position, Velocity, Acceleration, Deceleration, Jerk, Mode, Direction, Master, Numerator, Denominator, Table}
 use Rattle.line_text.specs.Reading.{each_of}
 use Rattle.line_text.specs.Rules.{broken_unless}
 use Rattle.machine_words.specs.Inputs.{positions_of, value_or}
@@ -33,28 +33,30 @@ pub record AreGivenOf (kind : BlockKind) (g : TextsGiven) : Type 0 where
   pub deceleration : takes kind Deceleration ≡ false → g.deceleration ≡ None
   pub jerk : takes kind Jerk ≡ false → g.jerk ≡ None
   pub mode : takes kind Mode ≡ false → g.mode ≡ None
+  pub direction : takes kind Direction ≡ false → g.direction ≡ None
   pub master : takes kind Master ≡ false → g.master ≡ None
   pub numerator : takes kind Numerator ≡ false → g.numerator ≡ None
   pub denominator : takes kind Denominator ≡ false → g.denominator ≡ None
   pub table : takes kind Table ≡ false → g.table ≡ None
 
-untaken : (kind : BlockKind) (input : Input) (words : List (List ℕ)) → takes kind input ≡ false → (text_at kind input words).0 ≡ None
+untaken : (version : ℕ) (kind : BlockKind) (input : Input) (words : List (List ℕ)) → takes kind input ≡ false → (text_at version kind input words).0 ≡ None
 unfolding text_at
-untaken kind input words h = rw h refl
+untaken version kind input words h = let none : takes_in version kind input ≡ false = rw h refl in rw none refl
 
-pub given-of : (kind : BlockKind) (words : List (List ℕ)) (g : TextsGiven) → texts_given kind words ≡ Some g → AreGivenOf kind g
+pub given-of : (version : ℕ) (kind : BlockKind) (words : List (List ℕ)) (g : TextsGiven) → texts_given version kind words ≡ Some g → AreGivenOf kind g
 unfolding texts_given
-given-of kind words g h =
-    let p = text_at kind Position words in
-    let v = text_at kind Velocity p.1 in
-    let a = text_at kind Acceleration v.1 in
-    let d = text_at kind Deceleration a.1 in
-    let j = text_at kind Jerk d.1 in
-    let mode = text_at kind Mode j.1 in
-    let master = text_at kind Master mode.1 in
-    let n = text_at kind Numerator master.1 in
-    let m = text_at kind Denominator n.1 in
-    let t = text_at kind Table m.1 in
+given-of version kind words g h =
+    let p = text_at version kind Position words in
+    let v = text_at version kind Velocity p.1 in
+    let a = text_at version kind Acceleration v.1 in
+    let d = text_at version kind Deceleration a.1 in
+    let j = text_at version kind Jerk d.1 in
+    let mode = text_at version kind Mode j.1 in
+    let dir = text_at version kind Direction mode.1 in
+    let master = text_at version kind Master dir.1 in
+    let n = text_at version kind Numerator master.1 in
+    let m = text_at version kind Denominator n.1 in
+    let t = text_at version kind Table m.1 in
     let r : TextsGiven = record {
       position = p.0;
       velocity = v.0;
@@ -62,6 +64,7 @@ given-of kind words g h =
       deceleration = d.0;
       jerk = j.0;
       mode = mode.0;
+      direction = dir.0;
       master = master.0;
       numerator = n.0;
       denominator = m.0;
@@ -71,16 +74,17 @@ given-of kind words g h =
     let same : r ≡ g = cc in
     let P : TextsGiven → Type 0 = λ q. AreGivenOf kind q in
     subst P same (record {
-      position = untaken kind Position words;
-      velocity = untaken kind Velocity p.1;
-      acceleration = untaken kind Acceleration v.1;
-      deceleration = untaken kind Deceleration a.1;
-      jerk = untaken kind Jerk d.1;
-      mode = untaken kind Mode j.1;
-      master = untaken kind Master mode.1;
-      numerator = untaken kind Numerator master.1;
-      denominator = untaken kind Denominator n.1;
-      table = untaken kind Table m.1;
+      position = untaken version kind Position words;
+      velocity = untaken version kind Velocity p.1;
+      acceleration = untaken version kind Acceleration v.1;
+      deceleration = untaken version kind Deceleration a.1;
+      jerk = untaken version kind Jerk d.1;
+      mode = untaken version kind Mode j.1;
+      direction = untaken version kind Direction mode.1;
+      master = untaken version kind Master dir.1;
+      numerator = untaken version kind Numerator master.1;
+      denominator = untaken version kind Denominator n.1;
+      table = untaken version kind Table m.1;
     })
 
 -- a value that is left out has its default

@@ -16,6 +16,6 @@ pub record AreFit (s : Setup) (b : BlockDef) (i : Inputs) : Type 0 where
 
 -- what words give the inputs of a call fits its block, in a machine with an axis
 abbrev pub InputsAreFit : Type 0
-InputsAreFit = (units : Units) → (s : Setup) → (b : BlockDef) → (state : List ℕ) →
+InputsAreFit = (version : ℕ) → (units : Units) → (s : Setup) → (b : BlockDef) → (state : List ℕ) →
     (words : List (List ℕ)) → (i : Inputs) → IsUnits units → 1 ≤ length s.axes →
-    inputs_by units s b state words ≡ Ok i → AreFit s b i
+    inputs_by version units s b state words ≡ Ok i → AreFit s b i

@@ -18,6 +18,7 @@ given_of g = record {
   deceleration = text_of g.deceleration;
   jerk = text_of g.jerk;
   mode = text_of g.mode;
+  direction = text_of g.direction;
   master = text_of g.master;
   numerator = text_of g.numerator;
   denominator = text_of g.denominator;

@@ -5,8 +5,10 @@ use Rattle.std.specs.Option.{ok_or}
 use Rattle.plc_types.specs.declared.kind.BlockKind.{BlockKind}
 use Rattle.plc_types.specs.declared.kind.BufferMode.{BufferMode}
 use Rattle.plc_types.specs.declared.kind.BufferMode.TheVariants.{Aborting}
-use Rattle.plc_types.specs.Inputs.{inputs_off, takes}
-use Rattle.plc_types.specs.KindNames.{mode_named}
+use Rattle.plc_types.specs.declared.kind.Direction.{Direction}
+use Rattle.plc_types.specs.declared.kind.Direction.TheVariants.{Shortest}
+use Rattle.plc_types.specs.Inputs.{inputs_off, position_count, takes}
+use Rattle.plc_types.specs.KindNames.{direction_named, mode_named}
 use Rattle.plc_types.specs.declared.inputs.Input.TheVariants.{Master}
 use Rattle.plc_types.specs.declared.inputs.Inputs.{Inputs}
 use Rattle.line_text.specs.Reading.{◌>>=◌, each_of}
@@ -29,26 +31,31 @@ abbrev pub value_or : {A : Type 0} → A → (List ℕ → Result A ℕ) → Opt
 value_or default read None = Ok default
 value_or default read (Some text) = read text
 
--- the positions of a block: one for each axis, and 0 after them
+-- the positions of a call, this many, and 0 after them
 unfoldable pub positions_of : Units → ℕ → List ℕ → Result (List ℤ) ℕ
-positions_of units axes text = do
+positions_of units count text = do
   places ← each_of (place_in units) (slice_split is_semicolon text)
-  _ ← broken_unless (length places == axes) no_value
+  _ ← broken_unless (length places == count) no_value
   Ok (positions_from places)
 
 -- a word that is no mode breaks its rule
 abbrev pub mode_of : List ℕ → Result BufferMode ℕ
 mode_of name = ok_or (mode_named name) no_value
 
+-- a word that is no direction breaks its rule
+abbrev pub direction_of : List ℕ → Result Direction ℕ
+direction_of name = ok_or (direction_named name) no_value
+
 -- the inputs of a call with Execute true, by their texts: a row for each key
 unfoldable pub inputs_of : Units → Setup → ℕ → TextsGiven → Result Inputs ℕ
-inputs_of units s axes given = do
-  positions ← value_or no_positions (positions_of units axes) given.position
+inputs_of units s count given = do
+  positions ← value_or no_positions (positions_of units count) given.position
   velocity ← value_or (pos 0) (velocity_in units) given.velocity
   acceleration ← value_or (pos 0) (acceleration_in units) given.acceleration
   deceleration ← value_or (pos 0) (acceleration_in units) given.deceleration
   jerk ← value_or (pos 0) (jerk_in units) given.jerk
   mode ← value_or Aborting mode_of given.mode
+  direction ← value_or Shortest direction_of given.direction
   master ← value_or 0 (axis_named wrong_name s) given.master
   numerator ← value_or (pos 1) number given.numerator
   denominator ← value_or (pos 1) number given.denominator
@@ -62,6 +69,7 @@ inputs_of units s axes given = do
     deceleration = deceleration;
     jerk = jerk;
     mode = mode;
+    direction = direction;
     master = master;
     numerator = numerator;
     denominator = denominator;
@@ -79,19 +87,25 @@ unfoldable pub are_masters_there : Setup → BlockKind → List (List ℕ) → B
 are_masters_there s kind words =
     not (takes kind Master) || list_all (is_master_there s) words
 
--- the inputs after `on` or a word in its place
-unfoldable pub inputs_on : Units → Setup → BlockDef → List ℕ → List (List ℕ) → Result Inputs ℕ
-inputs_on units s b state words = do
+-- how many positions a call of a block has, where its kind takes them
+abbrev pub positions_for : Setup → BlockDef → ℕ
+positions_for s b = position_count b.kind (axes_of s b)
+
+-- the inputs after `on` or a word in its place, in a text of this version
+unfoldable pub inputs_on : ℕ → Units → Setup → BlockDef → List ℕ → List (List ℕ) →
+    Result Inputs ℕ
+inputs_on version units s b state words = do
   _ ← broken_unless (are_masters_there s b.kind words) wrong_name
   _ ← broken_unless (says state (codes "on")) no_value
-  given ← ok_or (texts_given b.kind words) no_value
-  inputs_of units s (axes_of s b) given
+  given ← ok_or (texts_given version b.kind words) no_value
+  inputs_of units s (positions_for s b) given
 
 -- whether a call is one with Execute false
 abbrev pub is_off : List ℕ → Bool
 is_off state = says state (codes "off")
 
--- the inputs of a call, by the word after its block
-abbrev pub inputs_by : Units → Setup → BlockDef → List ℕ → List (List ℕ) → Result Inputs ℕ
-inputs_by units s b state words =
-    if is_off state then Ok inputs_off else inputs_on units s b state words
+-- the inputs of a call in a text of this version, by the word after its block
+abbrev pub inputs_by : ℕ → Units → Setup → BlockDef → List ℕ → List (List ℕ) →
+    Result Inputs ℕ
+inputs_by version units s b state words =
+    if is_off state then Ok inputs_off else inputs_on version units s b state words

@@ -36,3 +36,7 @@ too_many = 9
 -- the text or its machine part ends before it is whole
 abbrev pub not_whole : ℕ
 not_whole = 10
+
+-- the machine asks for what isn't built yet
+abbrev pub not_built : ℕ
+not_built = 11

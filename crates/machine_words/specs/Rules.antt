@@ -2,9 +2,9 @@
 use Rattle.std.specs.Prelude.{ℕ, Option, Some, None, Result, Ok, Err}
 use Rattle.line_text.specs.declared.reader.LineRefused.{LineRefused}
 use Rattle.motion_history.specs.declared.fault.ConfigFault.{ConfigFault}
-use Rattle.motion_history.specs.declared.fault.ConfigFault.TheVariants.{BadName, NameUsed, NameUnknown, OutOfRange, Table, TooMany, TooFew, OutOfMemory}
+use Rattle.motion_history.specs.declared.fault.ConfigFault.TheVariants.{BadName, NameUsed, NameUnknown, OutOfRange, Table, TooMany, TooFew, NotBuilt, OutOfMemory}
 use Rattle.motion_history.specs.declared.refused.TextRefused.{TextRefused}
-use Rattle.machine_words.specs.RuleNumbers.{no_name, not_whole, out_of_range, too_many, wrong_name}
+use Rattle.machine_words.specs.RuleNumbers.{no_name, not_built, not_whole, out_of_range, too_many, wrong_name}
 
 -- the rule of a bench or a program that a faulty item breaks
 abbrev pub rule_of : ConfigFault → ℕ
@@ -15,6 +15,7 @@ rule_of OutOfRange = out_of_range
 rule_of (Table fault) = out_of_range
 rule_of TooMany = too_many
 rule_of TooFew = not_whole
+rule_of NotBuilt = not_built
 rule_of OutOfMemory = not_whole
 
 -- a fault breaks the rule that is reported of it

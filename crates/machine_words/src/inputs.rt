@@ -3,7 +3,6 @@
 ghost use Rattle.std.specs.Prelude.{◌≡◌, pos};
 ghost use Rattle.line_text.specs.Reading.{Gives, Takes};
 ghost use Rattle.line_text.specs.Texts.{texts};
-ghost use Rattle.motion_history.specs.Calls.{axes_of};
 ghost use Rattle.machine_words.specs.Given.{given_of, text_of};
 ghost use Rattle.machine_words.specs.Inputs as spec;
 ghost use Rattle.machine_words.specs.Numbers as numbers;
@@ -13,22 +12,23 @@ ghost use Rattle.machine_words.specs.Units.{IsUnits};
 use crate::integer::number;
 use crate::key::{Given, texts_given};
 use crate::master::{are_masters_there, master_or_first};
-use crate::position::{axes_of, positions_or_none};
+use crate::position::{positions_for, positions_or_none};
 use crate::rule::{NO_VALUE, OUT_OF_RANGE, WRONG_NAME};
 use crate::units::{Units, acceleration_of, jerk_of, velocity_of};
 use line_text::{LineFault, broken_unless, in_range, required, says};
 use motion_history::{BlockDef, Builder};
-use plc_types::{BufferMode, INPUTS_OFF, Inputs, mode_named};
+use plc_types::{BufferMode, Direction, INPUTS_OFF, Inputs, direction_named, mode_named};
 use std::alloc::Global;
 
 /// The greatest number of a cam table in a call.
 const MOST_TABLE_NUMBER: u32 = 65_535;
 
-/// A block that is called, in its machine, and the units of the text that calls it.
+/// A block that is called, in its machine, and the version and the units of the text that calls it.
 #[derive(Clone, Copy)]
 pub struct Callee<'a> {
     pub machine: &'a Builder,
     pub block: &'a BlockDef,
+    pub version: u8,
     pub units: Units,
 }
 
@@ -47,8 +47,8 @@ pub fn inputs_by(
     words: &[&[u8]],
 ) -> Result<Inputs, LineFault>
     requires { IsUnits callee.now.units }
-    ensures { Gives (λ i. i) (spec.inputs_by callee.now.units callee.now.machine.now
-        callee.now.block.now state.now (texts words.now)) result }
+    ensures { Gives (λ i. i) (spec.inputs_by callee.now.version callee.now.units
+        callee.now.machine.now callee.now.block.now state.now (texts words.now)) result }
 {
     if is_off(state) {
         return Ok(INPUTS_OFF);
@@ -68,13 +68,13 @@ fn take_inputs(
     inputs: &mut Inputs,
 ) -> Result<(), LineFault>
     requires { IsUnits callee.now.units }
-    ensures { Takes (spec.inputs_on callee.now.units callee.now.machine.now callee.now.block.now
-        state.now (texts words.now)) inputs.new result }
+    ensures { Takes (spec.inputs_on callee.now.version callee.now.units callee.now.machine.now
+        callee.now.block.now state.now (texts words.now)) inputs.new result }
 {
     let kind = callee.block.kind;
     broken_unless(are_masters_there(callee.machine, kind, words), WRONG_NAME)?;
     broken_unless(says(state, b"on"), NO_VALUE)?;
-    let Some(given) = texts_given(kind, words) else {
+    let Some(given) = texts_given(callee.version, kind, words) else {
         return Err(LineFault::Rule(NO_VALUE));
     };
     read_inputs(alloc, callee, &given, inputs)
@@ -90,18 +90,19 @@ fn read_inputs(
 ) -> Result<(), LineFault>
     requires { IsUnits callee.now.units }
     ensures { Takes (spec.inputs_of callee.now.units callee.now.machine.now
-        (axes_of callee.now.machine.now callee.now.block.now) (given_of given.now))
+        (spec.positions_for callee.now.machine.now callee.now.block.now) (given_of given.now))
         inputs.new result }
 {
     let units = callee.units;
-    let axes = axes_of(callee.machine, callee.block);
+    let count = positions_for(callee.machine, callee.block);
     inputs.execute = true;
-    inputs.positions = positions_or_none(alloc, units, axes, given.position)?;
+    inputs.positions = positions_or_none(alloc, units, count, given.position)?;
     inputs.velocity = velocity_or_none(units, given.velocity)?;
     inputs.acceleration = acceleration_or_none(units, given.acceleration)?;
     inputs.deceleration = acceleration_or_none(units, given.deceleration)?;
     inputs.jerk = jerk_or_none(units, given.jerk)?;
     inputs.mode = mode_or_aborting(given.mode)?;
+    inputs.direction = direction_or_shortest(given.direction)?;
     inputs.master = master_or_first(callee.machine, given.master)?;
     inputs.numerator = number_or(1, given.numerator)?;
     inputs.denominator = number_or(1, given.denominator)?;
@@ -164,5 +165,16 @@ fn mode_or_aborting(text: Option<&[u8]>) -> Result<BufferMode, LineFault>
     match text {
         Some(text) => required(mode_named(text), NO_VALUE),
         None => Ok(BufferMode::Aborting),
+    }
+}
+
+// The direction of a text, or Shortest.
+fn direction_or_shortest(text: Option<&[u8]>) -> Result<Direction, LineFault>
+    ensures { Gives (λ d. d)
+        (spec.value_or Direction.Shortest spec.direction_of (text_of text.entry)) result }
+{
+    match text {
+        Some(text) => required(direction_named(text), NO_VALUE),
+        None => Ok(Direction::Shortest),
     }
 }

@@ -1,10 +1,8 @@
 // The items of a bench or a program.
 
-ghost use Rattle.std.specs.Prelude.{◌≡◌, if◌then◌else◌, None, Some};
 ghost use Rattle.line_text.specs.Reading.{Gives, Takes};
 ghost use Rattle.line_text.specs.Texts.{texts};
 ghost use Rattle.motion_history.specs.Faults as faults;
-ghost use Rattle.motion_history.specs.declared.fault.ConfigFault.{ConfigFault};
 ghost use Rattle.machine_words.specs.Items as spec;
 ghost use Rattle.machine_words.specs.Rules as rules;
 
@@ -37,9 +35,14 @@ pub fn add_task(machine: &mut Builder, words: &[&[u8]]) -> Result<(), LineFault>
     }
 }
 
-/// Whether the machine has an axis, a task and a block.
-pub fn is_whole(machine: &Builder) -> bool
-    ensures { faults.whole_fault machine.now ≡ (if result then None else Some ConfigFault.TooFew) }
+/// Whether the machine is whole: it has an axis, a task and a block, and asks for nothing that isn't
+/// built.
+pub fn whole(machine: &Builder) -> Result<(), LineFault>
+    ensures { Gives (λ u. u)
+        (rules.broken_by rules.rule_of (faults.whole_fault machine.now)) result }
 {
-    1 <= machine.axes().len() && 1 <= machine.tasks().len() && 1 <= machine.blocks().len()
+    match machine.whole_fault() {
+        None => Ok(()),
+        Some(fault) => Err(refusal_of(fault)),
+    }
 }

@@ -21,17 +21,17 @@ mod units;
 pub use drive::{MOST_STEPS, drive_in, plain_drive};
 pub use inputs::{Callee, inputs_by, is_off};
 pub use integer::{number, numbers};
-pub use item::{add_task, free_name, is_whole};
+pub use item::{add_task, free_name, whole};
 pub use known_blocks::KnownBlocks;
 pub use laws::{inputs_are_fit, sizes_of_machines};
 pub use name::{
     axes_named, axis_at, axis_named, block_at, group_at, is_same_name, kind_of, object_at,
     object_named, place_of_axis, place_of_block, place_of_group, place_of_task, task_at,
 };
-pub use position::{axes_of, parts_of, positions_from};
+pub use position::{axes_of, parts_of, positions_for, positions_from};
 pub use rule::{
-    ItemRules, NO_NAME, NO_VALUE, NO_VERSION, NOT_WHOLE, OUT_OF_PLACE, OUT_OF_RANGE, TOO_MANY,
-    WRONG_COUNT, WRONG_NAME, refusal_of, refused_by,
+    ItemRules, NO_NAME, NO_VALUE, NO_VERSION, NOT_BUILT, NOT_WHOLE, OUT_OF_PLACE, OUT_OF_RANGE,
+    TOO_MANY, WRONG_COUNT, WRONG_NAME, refusal_of, refused_by,
 };
 pub use table::add_table;
 pub use units::{LONGEST_CYCLE, SHORTEST_CYCLE, Units, decimal_units};

@@ -1,4 +1,4 @@
-// The positions of a call, one for each axis on which its block acts.
+// The positions of a call: one for each axis on which its block acts, or two places to follow from.
 
 ghost use Rattle.std.specs.Prelude.{◌≡◌, ◌≤◌, ◌++◌, ◌-◌, ◌∷◌, [], IfOk, length, not, pos, replicate};
 ghost use Rattle.std.specs.List.{list_all, slice_split};
@@ -13,6 +13,7 @@ use crate::rule::NO_VALUE;
 use crate::units::{Units, place_of, places_of};
 use line_text::{LineFault, broken_unless};
 use motion_history::{BlockDef, Builder, MOST_MEMBERS};
+use plc_types::position_count;
 use std::alloc::{AllocError, Global};
 
 /// On how many axes a block acts.
@@ -27,6 +28,14 @@ pub fn axes_of(machine: &Builder, block: &BlockDef) -> usize
         Some(group) => group.count as usize,
         None => 0,
     }
+}
+
+/// How many positions a call of a block has, where its kind takes them.
+pub fn positions_for(machine: &Builder, block: &BlockDef) -> usize
+    ensures value { result ≡ spec.positions_for machine.now block.now }
+    ensures few { result ≤ MOST_MEMBERS }
+{
+    position_count(block.kind, axes_of(machine, block) as u8) as usize
 }
 
 /// What stands between the semicolons of a text.
@@ -54,36 +63,36 @@ fn is_one_part(text: &[u8]) -> bool
     text.iter().all(|b| *b != b';')
 }
 
-// The position that a text is, where there is one axis.
+// The position that a text is, where there is to be one.
 #[tactic(auto, unfolding(crate::specs::Inputs::positions_of))]
-fn position_of(units: Units, axes: usize, text: &[u8]) -> Result<[i64; MOST_MEMBERS], LineFault>
+fn position_of(units: Units, count: usize, text: &[u8]) -> Result<[i64; MOST_MEMBERS], LineFault>
     requires { slice_split is_semicolon text.now ≡ text.now ∷ [] }
-    ensures { Gives (λ p. p) (spec.positions_of units axes text.now) result }
+    ensures { Gives (λ p. p) (spec.positions_of units count text.now) result }
 {
     let place = place_of(units, text)?;
-    broken_unless(1 == axes, NO_VALUE)?;
+    broken_unless(1 == count, NO_VALUE)?;
     Ok(positions_from(&[place]))
 }
 
-// The positions of a text, one for each axis.
+// The positions of a text, this many.
 #[tactic(auto, unfolding(crate::specs::Inputs::positions_of))]
 fn positions_of(
     alloc: Global,
     units: Units,
-    axes: usize,
+    count: usize,
     text: &[u8],
 ) -> Result<[i64; MOST_MEMBERS], LineFault>
-    requires { axes ≤ MOST_MEMBERS }
-    ensures { Gives (λ p. p) (spec.positions_of units axes text.now) result }
+    requires { count ≤ MOST_MEMBERS }
+    ensures { Gives (λ p. p) (spec.positions_of units count text.now) result }
 {
     if is_one_part(text) {
-        return position_of(units, axes, text);
+        return position_of(units, count, text);
     }
     let Ok(parts) = parts_of(alloc, text) else {
         return Err(LineFault::OutOfMemory);
     };
     let places = places_of(alloc, units, parts.as_slice())?;
-    broken_unless(places.len() == axes, NO_VALUE)?;
+    broken_unless(places.len() == count, NO_VALUE)?;
     Ok(positions_from(places.as_slice()))
 }
 
@@ -91,16 +100,16 @@ fn positions_of(
 pub fn positions_or_none(
     alloc: Global,
     units: Units,
-    axes: usize,
+    count: usize,
     text: Option<&[u8]>,
 ) -> Result<[i64; MOST_MEMBERS], LineFault>
-    requires { axes ≤ MOST_MEMBERS }
+    requires { count ≤ MOST_MEMBERS }
     ensures { Gives (λ p. p)
-        (spec.value_or spec.no_positions (spec.positions_of units axes) (text_of text.entry))
+        (spec.value_or spec.no_positions (spec.positions_of units count) (text_of text.entry))
         result }
 {
     match text {
-        Some(text) => positions_of(alloc, units, axes, text),
+        Some(text) => positions_of(alloc, units, count, text),
         None => Ok([0; MOST_MEMBERS]),
     }
 }

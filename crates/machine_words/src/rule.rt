@@ -34,6 +34,9 @@ pub const TOO_MANY: u8 = 9;
 /// The text or its machine part ends before it is whole.
 pub const NOT_WHOLE: u8 = 10;
 
+/// The machine asks for what isn't built yet.
+pub const NOT_BUILT: u8 = 11;
+
 /// The rules that an item breaks by its numbers.
 #[derive(Clone, Copy)]
 pub struct ItemRules {
@@ -54,6 +57,7 @@ pub fn refusal_of(fault: ConfigFault) -> LineFault
         ConfigFault::OutOfRange | ConfigFault::Table(_) => LineFault::Rule(OUT_OF_RANGE),
         ConfigFault::TooMany => LineFault::Rule(TOO_MANY),
         ConfigFault::TooFew => LineFault::Rule(NOT_WHOLE),
+        ConfigFault::NotBuilt => LineFault::Rule(NOT_BUILT),
         ConfigFault::OutOfMemory => LineFault::OutOfMemory,
     }
 }

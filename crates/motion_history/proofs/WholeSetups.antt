@@ -1,10 +1,12 @@
 -- A configuration that has its items and asks for nothing that isn't built is whole.
 -- for: finish
-use Rattle.std.specs.Prelude.{◌≡◌, refl, ◌≤◌, Bool, true, ◌&&◌, nat_le, List, [], ◌∷◌, length}
+use Rattle.std.specs.Prelude.{◌≡◌, refl, ◌≤◌, Bool, true, false, ◌&&◌, not, if◌then◌else◌, nat_le, Option, Some, None, List, [], ◌∷◌, length}
 use Rattle.std.specs.List.{list_all}
 use Rattle.std.proofs.lemmas.Bool.{and_from, and_parts, leb-true}
 use Rattle.motion_history.specs.Built.{is_built_axis, is_built_block, is_built_table, is_plain_axis}
-use Rattle.motion_history.specs.Faults.{asks_for_built, has_items}
+use Rattle.motion_history.specs.Faults.{asks_for_built, has_items, whole_fault}
+use Rattle.motion_history.specs.declared.fault.ConfigFault.{ConfigFault}
+use Rattle.motion_history.specs.declared.fault.ConfigFault.TheVariants.{NotBuilt, TooFew}
 use Rattle.motion_history.specs.Ranges.{is_axis}
 use Rattle.motion_history.specs.Setup.{Setup, IsSetup, IsWithin}
 
@@ -16,7 +18,7 @@ all_both p q (x ∷ xs) h k =
     let b = and_parts (q x) (list_all q xs) k in
     and_from (p x && q x) (list_all (λ y. p y && q y) xs) (and_from (p x) (q x) a.0 b.0) (all_both p q xs a.1 b.1)
 
-pub whole_of : (s : Setup) → IsWithin s → has_items s ≡ true → asks_for_built s ≡ true → IsSetup s
+whole_of : (s : Setup) → IsWithin s → has_items s ≡ true → asks_for_built s ≡ true → IsSetup s
 whole_of s w items built =
     let i = and_parts (nat_le 1 (length s.axes) && nat_le 1 (length s.tasks)) (nat_le 1 (length s.blocks)) items in
     let j = and_parts (nat_le 1 (length s.axes)) (nat_le 1 (length s.tasks)) i.0 in
@@ -33,3 +35,12 @@ whole_of s w items built =
       some_task = leb-true 1 (length s.tasks) j.1;
       some_block = leb-true 1 (length s.blocks) i.1;
     }
+
+-- two tests that refuse nothing
+neither : (a b : Bool) → (if not a then Some TooFew else if not b then Some NotBuilt else None) ≡ None → (a ≡ true) × (b ≡ true)
+neither true true h = (refl, refl)
+neither true false h = absurd (cc)
+neither false b h = absurd (cc)
+
+pub unrefused : (s : Setup) → IsWithin s → whole_fault s ≡ None → IsSetup s
+unrefused s w h = let both = neither (has_items s) (asks_for_built s) h in whole_of s w both.0 both.1

@@ -61,27 +61,32 @@ jerk_way l jmax =
     (steps_of (unsigned_abs l.amax) jmax + 2 * steps_of (unsigned_abs l.dmax) jmax + 2)
 
 -- whether an axis that turns for ever stays in range for two turns and while it comes to rest
-abbrev pub has_turns : Limits → ℕ → Bool
-has_turns l jmax =
+unfoldable pub has_room : Limits → ℕ → Bool
+has_room l jmax =
     nat_le (braking_way l + 2 * unsigned_abs l.hi + (if jmax == 0 then 0 else jerk_way l jmax))
     MOST_PLACE
 
 -- whether the turn of an axis is one: it is a whole number of increments, 2^31 at most, and the
 -- greatest step is less than half of it
-abbrev pub is_turn : ℤ → ℤ → ℤ → Bool
+unfoldable pub is_turn : ℤ → ℤ → ℤ → Bool
 is_turn turn vmax inc =
     is_whole turn inc && int_lt (pos 2 *ℤ vmax) turn && int_le turn (pos (2 ^ 31) *ℤ inc)
 
 -- whether the start is a whole number of increments within a turn
-abbrev pub is_turn_start : ℤ → ℤ → ℤ → Bool
+unfoldable pub is_turn_start : ℤ → ℤ → ℤ → Bool
 is_turn_start turn inc start =
     is_whole start inc && int_le (pos 0) start && int_lt start turn
 
--- whether the turn of an axis that turns for ever, its increment and its start are in range
+-- whether the turn of an axis and its start are in range
+unfoldable pub has_turn : Limits → ℤ → ℤ → ℕ → Bool
+has_turn l inc start jmax =
+    is_turn l.hi l.vmax inc && has_room l jmax && is_turn_start l.hi inc start
+
+-- whether the limits of an axis that turns for ever, its increment and its start are in range
 unfoldable pub is_turning : Limits → ℤ → ℤ → ℤ → Bool
 is_turning l inc start jmax =
     int_eq l.lo (pos 0) && are_speeds l && is_between (pos 1) inc (pos MOST_INCREMENT) &&
-    is_turn l.hi l.vmax inc && has_turns l (unsigned_abs jmax) && is_turn_start l.hi inc start
+    has_turn l inc start (unsigned_abs jmax)
 
 -- whether a greatest change of acceleration is in range, or there is none
 abbrev pub is_jmax : ℤ → Bool

@@ -1,6 +1,7 @@
 // When an axis may be one of a configuration.
 
 ghost use Rattle.std.specs.Prelude.{◌≡◌, ◌≤◌, ◌≤ℤ◌, ◌+◌, ◌*◌, ◌^◌, ◌*ℤ◌, int_le, int_lt, pos, unsigned_abs, IsTrue};
+ghost use Rattle.std.specs.Ordering.{int_eq};
 ghost use Rattle.motion_history.specs.Items.{setup_of};
 ghost use Rattle.motion_history.specs.Faults as faults;
 ghost use Rattle.motion_history.specs.Ranges as ranges;
@@ -91,7 +92,8 @@ fn is_axis_range(p: &AxisParameters) -> bool
 
 // Whether a greatest change of acceleration is in range, or there is none.
 fn is_jmax(jmax: i64) -> bool
-    ensures { result ≡ ranges.is_jmax jmax }
+    ensures value { result ≡ ranges.is_jmax jmax }
+    ensures small { IsTrue result → unsigned_abs jmax ≤ MOST_STEP }
 {
     jmax == 0 || is_between(2, jmax, MOST_STEP as i64)
 }
@@ -111,18 +113,37 @@ fn is_travel(limits: &Limits, inc: i64, start: i64) -> bool
 // Whether the turn of an axis that turns for ever, its increment and its start are in range.
 #[tactic(auto, unfolding(crate::specs::Ranges::is_turning))]
 fn is_turning(limits: &Limits, inc: i64, start: i64, jmax: i64) -> bool
-    requires { IsTrue (ranges.is_jmax jmax) }
+    requires { unsigned_abs jmax ≤ MOST_STEP }
     ensures { result ≡ ranges.is_turning limits.now inc start jmax }
 {
-    limits.lo == 0
+    is_zero(limits.lo)
         && are_speeds(limits)
         && is_between(1, inc, MOST_INCREMENT as i64)
-        && is_turn(limits.hi, limits.vmax, inc)
-        && has_turns(limits, jmax)
+        && has_turn(limits, inc, start, jmax.unsigned_abs())
+}
+
+// Whether z is 0.
+fn is_zero(z: i64) -> bool
+    ensures { result ≡ int_eq z (pos 0) }
+{
+    z == 0
+}
+
+// Whether the turn of an axis and its start are in range.
+#[tactic(auto, unfolding(crate::specs::Ranges::has_turn))]
+fn has_turn(limits: &Limits, inc: i64, start: i64, jmax: u64) -> bool
+    requires speeds { IsTrue (ranges.are_speeds limits.now) }
+    requires increment { IsTrue (ranges.is_between (pos 1) inc (pos MOST_INCREMENT)) }
+    requires jerk { jmax ≤ MOST_STEP }
+    ensures { result ≡ ranges.has_turn limits.now inc start jmax }
+{
+    is_turn(limits.hi, limits.vmax, inc)
+        && has_room(limits, jmax)
         && is_turn_start(limits.hi, inc, start)
 }
 
 // Whether the start is a whole number of increments within a turn.
+#[tactic(auto, unfolding(crate::specs::Ranges::is_turn_start))]
 fn is_turn_start(turn: i64, inc: i64, start: i64) -> bool
     requires { IsTrue (ranges.is_between (pos 1) inc (pos MOST_INCREMENT)) }
     ensures { result ≡ ranges.is_turn_start turn inc start }
@@ -139,6 +160,7 @@ fn is_whole(z: i64, inc: i64) -> bool
 }
 
 // Whether the turn of an axis is one.
+#[tactic(auto, unfolding(crate::specs::Ranges::is_turn))]
 fn is_turn(turn: i64, vmax: i64, inc: i64) -> bool
     requires step { IsTrue (ranges.is_between (pos 1) vmax (pos MOST_STEP)) }
     requires increment { IsTrue (ranges.is_between (pos 1) inc (pos MOST_INCREMENT)) }
@@ -188,12 +210,12 @@ fn jerk_way(limits: &Limits, jmax: u64) -> u128
 }
 
 // Whether an axis that turns for ever stays in range for two turns and while it comes to rest.
-fn has_turns(limits: &Limits, jmax: i64) -> bool
+#[tactic(auto, unfolding(crate::specs::Ranges::has_room))]
+fn has_room(limits: &Limits, jmax: u64) -> bool
     requires speeds { IsTrue (ranges.are_speeds limits.now) }
-    requires jerk { IsTrue (ranges.is_jmax jmax) }
-    ensures { result ≡ ranges.has_turns limits.now (unsigned_abs jmax) }
+    requires most { jmax ≤ MOST_STEP }
+    ensures { result ≡ ranges.has_room limits.now jmax }
 {
-    let jmax = jmax.unsigned_abs();
     let braking = ramp_sum(limits.vmax as u64, limits.dmax as u64);
     let turns = 2 * limits.hi.unsigned_abs() as u128;
     let jerk = if jmax == 0 { 0 } else { jerk_way(limits, jmax) };

@@ -214,6 +214,14 @@ impl Builder {
         Ok(number)
     }
 
+    /// Why the configuration is refused as a whole, if there is a reason: an axis, a task or a block
+    /// is missing, or it asks for what isn't built yet.
+    pub fn whole_fault(&self) -> Option<ConfigFault>
+        ensures { result ≡ faults.whole_fault self.now }
+    {
+        whole_fault(&self.items)
+    }
+
     /// The whole configuration. Where it is refused, the Builder is given up.
     pub fn finish(self) -> Result<Config, ConfigFault>
         ensures ok { IfOk result (λ c. c ≡ self) }
@@ -222,13 +230,23 @@ impl Builder {
             (faults.whole_fault self ≡ Some fault) }
     {
         let Builder { items } = self;
-        if !has_items(&items) {
-            return Err(ConfigFault::TooFew);
+        match whole_fault(&items) {
+            Some(fault) => Err(fault),
+            None => Ok(Config { items }),
         }
-        if !asks_for_built(&items) {
-            return Err(ConfigFault::NotBuilt);
-        }
-        Ok(Config { items })
+    }
+}
+
+// Why a configuration is refused as a whole.
+fn whole_fault(items: &Items) -> Option<ConfigFault>
+    ensures { result ≡ faults.whole_fault (setup_of items.now) }
+{
+    if !has_items(items) {
+        Some(ConfigFault::TooFew)
+    } else if !asks_for_built(items) {
+        Some(ConfigFault::NotBuilt)
+    } else {
+        None
     }
 }
 
