@@ -1,15 +1,17 @@
 -- The inputs of a call in a bench or a program. This project's profile.
-use Rattle.std.specs.Prelude.{ℕ, ℤ, pos, ◌==◌, Bool, true, not, ◌||◌, if◌then◌else◌, codes, Option, Some, None, Result, Ok, List, drop, is_some, length, nat_eq}
+use Rattle.std.specs.Prelude.{ℕ, ℤ, pos, ◌==◌, Bool, true, false, not, ◌&&◌, ◌||◌, if◌then◌else◌, codes, Option, Some, None, Result, Ok, List, drop, is_some, length, nat_eq}
 use Rattle.std.specs.List.{list_all, slice_split, starts_with}
 use Rattle.std.specs.Option.{ok_or}
+use Rattle.std.specs.Ordering.{int_eq}
 use Rattle.plc_types.specs.declared.kind.BlockKind.{BlockKind}
 use Rattle.plc_types.specs.declared.kind.BufferMode.{BufferMode}
 use Rattle.plc_types.specs.declared.kind.BufferMode.TheVariants.{Aborting}
 use Rattle.plc_types.specs.declared.kind.Direction.{Direction}
 use Rattle.plc_types.specs.declared.kind.Direction.TheVariants.{Shortest}
-use Rattle.plc_types.specs.Inputs.{inputs_off, position_count, takes}
+use Rattle.plc_types.specs.Inputs.{inputs_off, may_give, position_count, takes}
 use Rattle.plc_types.specs.KindNames.{direction_named, mode_named}
-use Rattle.plc_types.specs.declared.inputs.Input.TheVariants.{Master}
+use Rattle.plc_types.specs.declared.inputs.Input.TheVariants as Input
+use Rattle.plc_types.specs.declared.inputs.Input.TheVariants.{Master, Position}
 use Rattle.plc_types.specs.declared.inputs.Inputs.{Inputs}
 use Rattle.line_text.specs.Reading.{◌>>=◌, each_of}
 use Rattle.line_text.specs.Rules.{broken_unless, in_range}
@@ -22,7 +24,7 @@ use Rattle.machine_words.specs.Names.{axis_at, axis_named}
 use Rattle.machine_words.specs.Numbers.{number}
 use Rattle.machine_words.specs.Positions.{is_semicolon, positions_from}
 use Rattle.machine_words.specs.Units.{acceleration_in, jerk_in, place_in, velocity_in}
-use Rattle.machine_words.specs.RuleNumbers.{no_value, out_of_range, wrong_name}
+use Rattle.machine_words.specs.RuleNumbers.{no_value, not_built, out_of_range, wrong_name}
 use Rattle.machine_words.specs.declared.units.Units.{Units}
 pub use Rattle.machine_words.specs.Positions.{no_positions}
 
@@ -87,6 +89,17 @@ unfoldable pub are_masters_there : Setup → BlockKind → List (List ℕ) → B
 are_masters_there s kind words =
     not (takes kind Master) || list_all (is_master_there s) words
 
+-- whether a direction is the shortest
+abbrev pub is_shortest : Direction → Bool
+is_shortest Shortest = true
+is_shortest d = false
+
+-- whether inputs ask for nothing that isn't built yet
+unfoldable pub are_built : BlockKind → Inputs → Bool
+are_built k i =
+    (may_give k Position || list_all (λ z. int_eq z (pos 0)) i.positions) &&
+    (may_give k Input.Direction || is_shortest i.direction)
+
 -- how many positions a call of a block has, where its kind takes them
 abbrev pub positions_for : Setup → BlockDef → ℕ
 positions_for s b = position_count b.kind (axes_of s b)
@@ -98,7 +111,9 @@ inputs_on version units s b state words = do
   _ ← broken_unless (are_masters_there s b.kind words) wrong_name
   _ ← broken_unless (says state (codes "on")) no_value
   given ← ok_or (texts_given version b.kind words) no_value
-  inputs_of units s (positions_for s b) given
+  inputs ← inputs_of units s (positions_for s b) given
+  _ ← broken_unless (are_built b.kind inputs) not_built
+  Ok inputs
 
 -- whether a call is one with Execute false
 abbrev pub is_off : List ℕ → Bool

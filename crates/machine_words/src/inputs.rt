@@ -1,6 +1,8 @@
 // The inputs of a call.
 
 ghost use Rattle.std.specs.Prelude.{◌≡◌, pos};
+ghost use Rattle.std.specs.List.{list_all};
+ghost use Rattle.std.specs.Ordering.{int_eq};
 ghost use Rattle.line_text.specs.Reading.{Gives, Takes};
 ghost use Rattle.line_text.specs.Texts.{texts};
 ghost use Rattle.machine_words.specs.Given.{given_of, text_of};
@@ -13,11 +15,14 @@ use crate::integer::number;
 use crate::key::{Given, texts_given};
 use crate::master::{are_masters_there, master_or_first};
 use crate::position::{positions_for, positions_or_none};
-use crate::rule::{NO_VALUE, OUT_OF_RANGE, WRONG_NAME};
+use crate::rule::{NO_VALUE, NOT_BUILT, OUT_OF_RANGE, WRONG_NAME};
 use crate::units::{Units, acceleration_of, jerk_of, velocity_of};
 use line_text::{LineFault, broken_unless, in_range, required, says};
 use motion_history::{BlockDef, Builder};
-use plc_types::{BufferMode, Direction, INPUTS_OFF, Inputs, direction_named, mode_named};
+use plc_types::{
+    BlockKind, BufferMode, Direction, INPUTS_OFF, Input, Inputs, direction_named, may_give,
+    mode_named,
+};
 use std::alloc::Global;
 
 /// The greatest number of a cam table in a call.
@@ -77,7 +82,8 @@ fn take_inputs(
     let Some(given) = texts_given(callee.version, kind, words) else {
         return Err(LineFault::Rule(NO_VALUE));
     };
-    read_inputs(alloc, callee, &given, inputs)
+    read_inputs(alloc, callee, &given, inputs)?;
+    broken_unless(are_built(kind, inputs), NOT_BUILT)
 }
 
 // Puts the inputs of a call in place of others, by their texts.
@@ -177,4 +183,27 @@ fn direction_or_shortest(text: Option<&[u8]>) -> Result<Direction, LineFault>
         Some(text) => required(direction_named(text), NO_VALUE),
         None => Ok(Direction::Shortest),
     }
+}
+
+// Whether inputs ask for nothing that isn't built yet.
+#[tactic(auto, unfolding(crate::specs::Inputs::are_built))]
+fn are_built(kind: BlockKind, inputs: &Inputs) -> bool
+    ensures { result ≡ spec.are_built kind inputs.now }
+{
+    (may_give(kind, Input::Position) || are_zero(&inputs.positions))
+        && (may_give(kind, Input::Direction) || is_shortest(inputs.direction))
+}
+
+// Whether all places are 0.
+fn are_zero(places: &[i64]) -> bool
+    ensures { result ≡ list_all (λ z. int_eq z (pos 0)) places.now }
+{
+    places.iter().all(|place| *place == 0)
+}
+
+// Whether a direction is the shortest.
+fn is_shortest(direction: Direction) -> bool
+    ensures { result ≡ spec.is_shortest direction }
+{
+    matches!(direction, Direction::Shortest)
 }

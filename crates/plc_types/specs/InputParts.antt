@@ -3,7 +3,7 @@ use Rattle.std.specs.Prelude.{◌≡◌, ◌≤◌, ℕ, ℤ, Bool, false, pos, 
 use Rattle.plc_types.specs.declared.kind.BlockKind.{BlockKind}
 use Rattle.plc_types.specs.declared.kind.BufferMode.TheVariants.{Aborting}
 use Rattle.plc_types.specs.declared.kind.Direction.TheVariants.{Shortest}
-use Rattle.plc_types.specs.Inputs.{IsTaken, takes}
+use Rattle.plc_types.specs.Inputs.{IsTaken, may_give, takes}
 use Rattle.plc_types.specs.declared.inputs.Input.TheVariants as input
 use Rattle.plc_types.specs.declared.inputs.Inputs.{Inputs}
 
@@ -25,7 +25,7 @@ pub record AreBrakes (k : BlockKind) (i : Inputs) : Type 0 where
 -- the mode and the direction of a kind, and its master with its ratio and its table. This project's profile
 pub record AreOthers (k : BlockKind) (i : Inputs) : Type 0 where
   pub mode : takes k input.Mode ≡ false → i.mode ≡ Aborting
-  pub direction : takes k input.Direction ≡ false → i.direction ≡ Shortest
+  pub direction : may_give k input.Direction ≡ false → i.direction ≡ Shortest
   pub master : takes k input.Master ≡ false → i.master ≡ 0
   pub numerator : IsTaken (takes k input.Numerator) (pos 1) i.numerator
   pub denominator : IsTaken (takes k input.Denominator) (pos 1) i.denominator

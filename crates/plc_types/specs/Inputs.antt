@@ -77,23 +77,30 @@ input_version k input = 1
 abbrev pub takes_in : ℕ → BlockKind → Input → Bool
 takes_in version k input = takes k input && nat_le (input_version k input) version
 
+-- whether a call may give an input another value than its default. The offsets of a cam and the
+-- directions are not built yet. This project's profile
+abbrev pub may_give : BlockKind → Input → Bool
+may_give CamIn Position = false
+may_give k Direction = false
+may_give k input = takes k input
+
 -- an input has its default unless it is taken, and is at most 10^18 in size. This project's profile
 pub record IsTaken (takes : Bool) (default z : ℤ) : Type 0 where
   pub left_out : takes ≡ false → z ≡ default
   pub size : unsigned_abs z ≤ MOST_NUMBER
 
 -- the inputs of a kind of block that acts on this many axes: as many positions as it takes, and what
--- it doesn't take has its default. This project's profile
+-- it doesn't take, or what isn't built yet, has its default. This project's profile
 pub record AreInputs (k : BlockKind) (axes : ℕ) (i : Inputs) : Type 0 where
   pub positions : (n : ℕ) →
-      IsTaken (takes k Position) (pos 0) (slice_index_or i.positions n (pos 0))
+      IsTaken (may_give k Position) (pos 0) (slice_index_or i.positions n (pos 0))
   pub few_positions : (n : ℕ) → position_count k axes ≤ n → slice_index_or i.positions n (pos 0) ≡ pos 0
   pub velocity : IsTaken (takes k Velocity) (pos 0) i.velocity
   pub acceleration : IsTaken (takes k Acceleration) (pos 0) i.acceleration
   pub deceleration : IsTaken (takes k Deceleration) (pos 0) i.deceleration
   pub jerk : IsTaken (takes k Jerk) (pos 0) i.jerk
   pub mode : takes k Mode ≡ false → i.mode ≡ Aborting
-  pub direction : takes k Direction ≡ false → i.direction ≡ Shortest
+  pub direction : may_give k Direction ≡ false → i.direction ≡ Shortest
   pub master : takes k Master ≡ false → i.master ≡ 0
   pub numerator : IsTaken (takes k Numerator) (pos 1) i.numerator
   pub denominator : IsTaken (takes k Denominator) (pos 1) i.denominator

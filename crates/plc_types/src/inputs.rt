@@ -172,6 +172,17 @@ pub fn position_count(kind: BlockKind, axes: u8) -> u8
     }
 }
 
+/// Whether a call may give an input another value than its default: the offsets of a cam and the
+/// directions are not built yet.
+pub fn may_give(kind: BlockKind, input: Input) -> bool
+    ensures { result ≡ spec.may_give kind input }
+{
+    match (kind, input) {
+        (BlockKind::CamIn, Input::Position) | (_, Input::Direction) => false,
+        _ => takes(kind, input),
+    }
+}
+
 // The first version of the texts in which a kind has an input.
 fn input_version(kind: BlockKind, input: Input) -> u8
     ensures { result ≡ spec.input_version kind input }

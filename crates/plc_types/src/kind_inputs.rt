@@ -5,7 +5,7 @@ ghost use Rattle.plc_types.specs.InputParts.{AreBrakes, AreOthers, ArePositions,
 ghost use Rattle.plc_types.specs.Inputs.{AreInputs, IsTaken};
 ghost use Rattle.plc_types.specs.Inputs as spec;
 
-use crate::inputs::{Input, Inputs, position_count, takes};
+use crate::inputs::{Input, Inputs, may_give, position_count, takes};
 use crate::kind::{BlockKind, BufferMode, Direction};
 use motion_numbers::MOST_NUMBER;
 
@@ -18,7 +18,7 @@ pub fn are_inputs(kind: BlockKind, axes: u8, inputs: &Inputs) -> bool
         && are_brakes(kind, inputs)
         && are_others(kind, inputs)
         && are_positions(
-            takes(kind, Input::Position),
+            may_give(kind, Input::Position),
             position_count(kind, axes),
             &inputs.positions,
         )
@@ -78,7 +78,7 @@ fn are_others(kind: BlockKind, inputs: &Inputs) -> bool
     ensures no { AreOthers kind inputs.now → IsTrue result }
 {
     (is_aborting(inputs.mode) || takes(kind, Input::Mode))
-        && (is_shortest(inputs.direction) || takes(kind, Input::Direction))
+        && (is_shortest(inputs.direction) || may_give(kind, Input::Direction))
         && (inputs.master == 0 || takes(kind, Input::Master))
         && is_taken(kind, Input::Numerator, 1, inputs.numerator)
         && is_taken(kind, Input::Denominator, 1, inputs.denominator)

@@ -26,7 +26,7 @@ pub use count::{MOST_COUNTED, MOST_OFFSET, MOST_REPORTED, place, target_count};
 pub use drive::{CYCLIC_SYNCHRONOUS_POSITION, DriveIn, DriveOut, DriveState, NO_ANSWER, NO_OUTPUT};
 pub use flag::{Flag, flag_named, is_shown};
 pub use group::{GroupRow, GroupState};
-pub use inputs::{INPUTS_OFF, Input, Inputs, position_count, takes, takes_in};
+pub use inputs::{INPUTS_OFF, Input, Inputs, may_give, position_count, takes, takes_in};
 pub use kind::{BlockKind, BufferMode, Direction};
 pub use kind_inputs::are_inputs;
 pub use kind_names::{
