@@ -63,8 +63,8 @@ least_of version form.Call = 2
 least_of version form.Cycle = 0
 least_of version form.End = 1
 
--- and at most, where there is a most: behind the numbers of an axis stands `ready`, and from version
--- 3 on `modulo` and `jmax=N`
+-- and at most, where there is a most: behind the numbers of an axis may stand `ready`, and from
+-- version 3 on `modulo` and `jmax=N`
 abbrev pub most_of : TraceVersion → Form → Option ℕ
 most_of version form.Limit = Some 2
 most_of One form.Axis = Some 8

@@ -15,6 +15,7 @@ use Rattle.machine_words.specs.RuleNumbers.{wrong_count, wrong_name}
 use Rattle.machine_words.specs.declared.units.Units.TheVariants.{User}
 use Rattle.motion_history.specs.Calls.{axes_of}
 use Rattle.motion_history.specs.Setup.{Setup}
+use Rattle.motion_history.specs.Versions.{number_of}
 use Rattle.motion_history.specs.declared.config.BlockDef.{BlockDef}
 use Rattle.plc_program.specs.Calls.{call_meaning}
 use Rattle.plc_program.specs.Named.{block_named}
@@ -49,10 +50,10 @@ call-line fits s (name ∷ []) l cycle some h = absurd (cc)
 call-line fits s (name ∷ state ∷ words) l cycle some h =
     let few = bind_ok (broken_unless (not (is_off state) || (length words == 0)) wrong_count) _ l h in
     let k = bind_ok (block_named s.setup (task_of s) name) _ l few.2 in
-    let b = bind_ok (ok_or (slice_get s.setup.blocks k.0) wrong_name) (λ b. inputs_by (User s.cycle_us s.machine) s.setup b state words >>= λ i. Ok (Call k.0 i)) l k.2 in
-    let i = bind_ok (inputs_by (User s.cycle_us s.machine) s.setup b.0 state words) _ l b.2 in
+    let b = bind_ok (ok_or (slice_get s.setup.blocks k.0) wrong_name) (λ b. inputs_by (number_of s.version) (User s.cycle_us s.machine) s.setup b state words >>= λ i. Ok (Call k.0 i)) l k.2 in
+    let i = bind_ok (inputs_by (number_of s.version) (User s.cycle_us s.machine) s.setup b.0 state words) _ l b.2 in
     let is : Call k.0 i.0 ≡ l = ok_is (Ok (Call k.0 i.0)) (Call k.0 i.0) l refl i.2 in
-    let fit : AreFit s.setup b.0 i.0 = fits (User s.cycle_us s.machine) s.setup b.0 state words i.0 cycle some i.1 in
+    let fit : AreFit s.setup b.0 i.0 = fits (number_of s.version) (User s.cycle_us s.machine) s.setup b.0 state words i.0 cycle some i.1 in
     let at : slice_get s.setup.blocks k.0 ≡ Some b.0 = found (slice_get s.setup.blocks k.0) wrong_name b.0 b.1 in
     let own : IsBlockOf s.setup (task_of s) k.0 = block-own s.setup (task_of s) name k.0 k.1 in
     let P : BlockDef → Type 0 = λ d. AreInputs d.kind (axes_of s.setup d) i.0 in

@@ -22,6 +22,7 @@ use Rattle.machine_words.specs.RuleNumbers.{no_value, no_version, out_of_place, 
 use Rattle.machine_words.specs.declared.units.Units.TheVariants.{User}
 use Rattle.motion_history.specs.Faults.{block_fault, name_fault, task_fault}
 use Rattle.motion_history.specs.Setup.{Setup}
+use Rattle.motion_history.specs.Versions.{number_of}
 use Rattle.motion_history.specs.declared.refused.TraceVersion.{TraceVersion}
 use Rattle.motion_history.specs.declared.config.BlockDef.{BlockDef}
 use Rattle.plc_program.specs.Calls.{call_meaning}
@@ -46,7 +47,7 @@ use Rattle.machine_words.proofs.Lists.{all-push}
 -- ---- where lines may stand
 
 -- the tasks so far, where one is under way
-tasks-are : (s : SoFar) → has_task s ≡ true → tasks_of s ≡ s.before ++ s.lines ∷ []
+pub tasks-are : (s : SoFar) → has_task s ≡ true → tasks_of s ≡ s.before ++ s.lines ∷ []
 tasks-are s h = rw h refl
 
 -- the task that is under way stands after those before
@@ -111,8 +112,8 @@ call-is s (name ∷ []) l h = absurd (cc)
 call-is s (name ∷ state ∷ words) l h =
     let few = bind_ok (broken_unless (not (is_off state) || (length words == 0)) wrong_count) _ l h in
     let k = bind_ok (block_named s.setup (task_of s) name) _ l few.2 in
-    let b = bind_ok (ok_or (slice_get s.setup.blocks k.0) wrong_name) (λ b. inputs_by (User s.cycle_us s.machine) s.setup b state words >>= λ i. Ok (Call k.0 i)) l k.2 in
-    let i = bind_ok (inputs_by (User s.cycle_us s.machine) s.setup b.0 state words) _ l b.2 in
+    let b = bind_ok (ok_or (slice_get s.setup.blocks k.0) wrong_name) (λ b. inputs_by (number_of s.version) (User s.cycle_us s.machine) s.setup b state words >>= λ i. Ok (Call k.0 i)) l k.2 in
+    let i = bind_ok (inputs_by (number_of s.version) (User s.cycle_us s.machine) s.setup b.0 state words) _ l b.2 in
     record { block = k.0; inputs = i.0; is = sym (ok_is (Ok (Call k.0 i.0)) (Call k.0 i.0) l refl i.2) }
 
 call-next : InputsAreFit → (first : Setup) (s : SoFar) (words : List (List ℕ)) (l : Instruction) → IsSoFar first s → call_meaning s words ≡ Ok l → IsNext s l
@@ -166,7 +167,7 @@ current-task : (first : Setup) (s : SoFar) → IsSoFar first s → s.repeating �
 current-task first s k out = record { few = k.few; counted = k.counted; closed = k.repeats ∙ ap (λ b. Some b) out; waits = k.waits }
 
 -- all tasks are
-tasks-whole : (first : Setup) (s : SoFar) → IsSoFar first s → s.repeating ≡ false → AllByRecursion IsTask (tasks_of s)
+pub tasks-whole : (first : Setup) (s : SoFar) → IsSoFar first s → s.repeating ≡ false → AllByRecursion IsTask (tasks_of s)
 tasks-whole first s k out =
     elim (cases_Bool (has_task s)) [
       | inl under ↦ subst (λ ts. AllByRecursion IsTask ts) (sym (tasks-are s under)) (all-push IsTask s.before s.lines k.before (current-task first s k out))

@@ -4,8 +4,10 @@ use Rattle.std.specs.Option.{ok_or}
 use Rattle.line_text.specs.Reading.{◌>>=◌, Meaning, reading_of}
 use Rattle.line_text.specs.Rules.{broken_unless}
 use Rattle.line_text.specs.Texts.{says}
+use Rattle.line_text.specs.declared.reader.LineFault.{LineFault}
+use Rattle.line_text.specs.declared.reader.LineFault.TheVariants as line
 use Rattle.machine_words.specs.Items.{task_meaning}
-use Rattle.machine_words.specs.Rules.{broken_by, refused_by, rule_of}
+use Rattle.machine_words.specs.Rules.{broken_by, refused_by, rule_of, told_as}
 use Rattle.machine_words.specs.RuleNumbers.{no_version, not_whole, out_of_place, too_many, wrong_count}
 use Rattle.motion_history.specs.Faults.{whole_fault}
 use Rattle.motion_history.specs.Setup.{Setup}
@@ -133,16 +135,27 @@ pub record Outcome : Type 0 where
   pub program : List (List Instruction)
   pub setup : Setup
 
--- the program at the end of the text: the machine is whole, and no repeat is open
+-- a program may end where no repeat is open, and its machine is whole and asks for nothing that
+-- isn't built
+unfoldable pub may_end : Setup → Bool → Result (Unit {0}) ℕ
+may_end s repeating = do
+  _ ← broken_unless (not repeating) not_whole
+  broken_by rule_of (whole_fault s)
+
+-- the program at the end of the text
 unfoldable pub ending : SoFar → Result Outcome ℕ
 ending s = do
-  _ ← broken_by rule_of (whole_fault s.setup)
-  _ ← broken_unless (not s.repeating) not_whole
+  _ ← may_end s.setup s.repeating
   Ok (record { program = tasks_of s; setup = s.setup })
 
 -- a rule of a program is reported by the letter P
 abbrev pub letter : ℕ
 letter = 80
+
+-- how a program is refused whose line breaks a rule, or for which memory runs out
+abbrev pub fault_at : ℕ → LineFault → TextFault
+fault_at n (line.Rule rule) = Refused (told_as letter (record { line = n; rule = rule }))
+fault_at n line.OutOfMemory = OutOfMemory
 
 -- the program that a text is for this machine, or the first line that breaks a rule and the first
 -- rule that it breaks

@@ -28,6 +28,7 @@ pub fn call_of(reader: &ProgramReader, words: &[&[u8]]) -> Result<Instruction, L
     let callee = Callee {
         machine,
         block,
+        version: reader.version.number(),
         units: Units::User {
             cycle_us: reader.cycle_us(),
             version: reader.configured,

@@ -1,10 +1,10 @@
 // Reading a program.
 
 ghost use Rattle.std.specs.Prelude.{◌≡◌, ◌≤◌, [], List, IfOk, OnOk, Ok, length};
-ghost use Rattle.line_text.specs.Reading.{at_line};
+ghost use Rattle.line_text.specs.Reading.{Gives, at_line};
 ghost use Rattle.machine_words.specs.Rules.{refused_by, told_as};
 ghost use Rattle.machine_words.specs.Units.{IsCycle};
-ghost use Rattle.motion_history.specs.Setup.{Setup};
+ghost use Rattle.motion_history.specs.Setup.{IsSetup, Setup};
 ghost use Rattle.plc_program.specs.Programs.{AddsTasks, IsProgramOf};
 ghost use Rattle.plc_program.specs.Reading as spec;
 ghost use Rattle.plc_program.specs.Reading.{ReadsBy};
@@ -14,18 +14,18 @@ ghost use Rattle.plc_program.specs.declared.program.Instruction.{Instruction};
 
 use crate::program::Program;
 use crate::reader::ProgramReader;
-use line_text::{LineRefused, LinesFault, lines_are_spelled, read_lines};
-use machine_words::{NOT_WHOLE, inputs_are_fit, is_whole, refused_by};
+use line_text::{LineFault, LineRefused, LinesFault, broken_unless, lines_are_spelled, read_lines};
+use machine_words::{NOT_WHOLE, inputs_are_fit, refused_by, whole};
 use motion_history::{Builder, TextFault, TraceVersion};
 use std::alloc::Global;
 use std::mem;
 
 /// The program that a text is for a machine whose cycle is 100 to 100,000 microseconds long, and
 /// whose configuration is of this version; the machine gets its tasks and blocks. A program of
-/// version 3 is one for machines of version 3 alone. A text that is none is refused at its first line that breaks
-/// a rule, by the first rule that it breaks: P1 to P10. The machine may then hold some of the
-/// text's tasks and blocks. It takes memory for the words of one line at a time, besides the
-/// program.
+/// version 3 is one for machines of version 3 alone. A text that is none is refused at its first
+/// line that breaks a rule, by the first rule that it breaks: P1 to P11. The machine may then hold
+/// some of the text's tasks and blocks. It takes memory for the words of one line at a time,
+/// besides the program.
 pub fn read_program(
     alloc: Global,
     text: &[u8],
@@ -128,6 +128,28 @@ fn refusal(refused: LineRefused) -> TextFault
     refused_by(b'P', refused)
 }
 
+// How a program is refused at this line that breaks a rule.
+fn refusal_at(line: u64, fault: LineFault) -> TextFault
+    ensures { result ≡ spec.fault_at line fault }
+{
+    match fault {
+        LineFault::Rule(rule) => refusal(LineRefused { line, rule }),
+        LineFault::OutOfMemory => TextFault::OutOfMemory,
+    }
+}
+
+// Whether a program may end here, of a machine that is then whole.
+#[tactic(auto, unfolding(crate::specs::Reading::may_end))]
+fn may_end(machine: &Builder, repeating: bool) -> Result<(), LineFault>
+    ensures ends { Gives (λ u. u) (spec.may_end machine.now repeating) result }
+    ensures setup { OnOk result (IsSetup machine.now) }
+{
+    // law: the machine is in its ranges
+    let _ = machine.axes();
+    broken_unless(!repeating, NOT_WHOLE)?;
+    whole(machine)
+}
+
 // The program at the end of the text, and its machine.
 #[tactic(auto, unfolding(crate::specs::Reading::ending))]
 fn program_of(reader: ProgramReader, last: u64) -> (Builder, Result<Program, TextFault>)
@@ -144,12 +166,8 @@ fn program_of(reader: ProgramReader, last: u64) -> (Builder, Result<Program, Tex
         repeating,
         ..
     } = reader;
-    if !is_whole(&machine) || repeating {
-        let refused = LineRefused {
-            line: last,
-            rule: NOT_WHOLE,
-        };
-        return (machine, Err(refusal(refused)));
+    if let Err(fault) = may_end(&machine, repeating) {
+        return (machine, Err(refusal_at(last, fault)));
     }
     let mut tasks = before;
     let Ok(()) = tasks.push(lines) else {
