@@ -7,7 +7,7 @@ use Rattle.motion_numbers.specs.declared.TheConstants.{MOST_NUMBER}
 use Rattle.plc_types.specs.declared.kind.BlockKind.{BlockKind}
 use Rattle.plc_types.specs.declared.kind.BufferMode.{BufferMode}
 use Rattle.plc_types.specs.declared.kind.BufferMode.TheVariants.{Aborting}
-use Rattle.plc_types.specs.Inputs.{AreInputs, IsTaken, takes}
+use Rattle.plc_types.specs.Inputs.{AreInputs, IsTaken, may_give, position_count, takes}
 use Rattle.plc_types.specs.declared.inputs.Input.TheVariants.{Position, Velocity, Acceleration, Deceleration, Jerk, Mode, Master, Numerator, Denominator, Table}
 use Rattle.machine_words.specs.Positions.{no_positions, positions_from}
 use Rattle.machine_words.proofs.Zeros.{zeros-at}
@@ -76,7 +76,7 @@ mode-left kind number mode given none = let e : Some Aborting ≡ Some mode = rw
 
 pub range-of : (kind : BlockKind) (axes : ℕ) (g : MotionInputs) (mode : BufferMode) → AreInputs kind axes (inputs_in kind axes g mode) → AreInRange kind axes g
 range-of kind axes g mode is = record {
-  positions = λ n below so. positions-small (takes kind Position) axes g.positions n (is.positions n) below so;
+  positions = λ n below so. positions-small (may_give kind Position) (position_count kind axes) g.positions n (is.positions n) below so;
   velocity = number-small (takes kind Velocity) (pos 0) g.velocity is.velocity;
   acceleration = number-small (takes kind Acceleration) (pos 0) g.acceleration is.acceleration;
   deceleration = number-small (takes kind Deceleration) (pos 0) g.deceleration is.deceleration;
@@ -88,13 +88,14 @@ range-of kind axes g mode is = record {
 pub inputs-of : (kind : BlockKind) (axes : ℕ) (g : MotionInputs) (mode : BufferMode) → mode_given kind g.mode ≡ Some mode → AreInRange kind axes g →
     AreInputs kind axes (inputs_in kind axes g mode)
 inputs-of kind axes g mode given are = record {
-  positions = λ n. positions-taken (takes kind Position) axes g.positions n (are.positions n);
-  few_positions = positions-few (takes kind Position) axes g.positions;
+  positions = λ n. positions-taken (may_give kind Position) (position_count kind axes) g.positions n (are.positions n);
+  few_positions = positions-few (may_give kind Position) (position_count kind axes) g.positions;
   velocity = number-taken (takes kind Velocity) (pos 0) g.velocity (lit≤ tt) are.velocity;
   acceleration = number-taken (takes kind Acceleration) (pos 0) g.acceleration (lit≤ tt) are.acceleration;
   deceleration = number-taken (takes kind Deceleration) (pos 0) g.deceleration (lit≤ tt) are.deceleration;
   jerk = number-taken (takes kind Jerk) (pos 0) g.jerk (lit≤ tt) are.jerk;
   mode = mode-left kind g.mode mode given;
+  direction = λ none. refl;
   master = left-out (takes kind Master) g.master 0;
   numerator = number-taken (takes kind Numerator) (pos 1) g.numerator (lit≤ tt) are.numerator;
   denominator = number-taken (takes kind Denominator) (pos 1) g.denominator (lit≤ tt) are.denominator;

@@ -37,7 +37,8 @@ kinds =
     ∷ kind.MoveAbsolute ∷ kind.MoveRelative ∷ kind.MoveVelocity
     ∷ kind.GearIn ∷ kind.GearOut ∷ kind.CamIn ∷ kind.CamOut
     ∷ kind.GroupEnable ∷ kind.GroupDisable ∷ kind.GroupReset ∷ kind.GroupStop ∷ kind.GroupHalt
-    ∷ kind.MoveLinearAbsolute ∷ kind.MoveCircularAbsolute ∷ kind.MoveAdditive ∷ []
+    ∷ kind.MoveLinearAbsolute ∷ kind.MoveCircularAbsolute ∷ kind.MoveAdditive
+    ∷ kind.GearInPos ∷ kind.SetOverride ∷ kind.GroupSetOverride ∷ []
 
 -- the kind of block of this number, if there is one
 abbrev pub kind_at : ℕ → Option BlockKind
@@ -65,6 +66,9 @@ kind_number kind.GroupHalt = 16
 kind_number kind.MoveLinearAbsolute = 17
 kind_number kind.MoveCircularAbsolute = 18
 kind_number kind.MoveAdditive = 19
+kind_number kind.GearInPos = 20
+kind_number kind.SetOverride = 21
+kind_number kind.GroupSetOverride = 22
 
 -- the limits of an axis and its increment as C has them
 abbrev pub limits_shown : AxisDef → MotionLimits

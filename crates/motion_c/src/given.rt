@@ -1,10 +1,12 @@
 // What a C program gives a call of a block, and the inputs that it makes.
 
-ghost use Rattle.std.specs.Prelude.{◌≡◌, if◌then◌else◌};
+ghost use Rattle.std.specs.Prelude.{◌≡◌, ◌≤◌, if◌then◌else◌};
 ghost use Rattle.motion_c.specs.Given as spec;
 
 use machine_words::positions_from;
-use plc_types::{BlockKind, BufferMode, Input, Inputs, MODES, takes};
+use plc_types::{
+    BlockKind, BufferMode, Direction, Input, Inputs, MODES, may_give, position_count, takes,
+};
 
 /// What a C program gives a call of a block. An input that the block's kind doesn't take isn't
 /// read, whatever stands in it.
@@ -12,6 +14,7 @@ use plc_types::{BlockKind, BufferMode, Input, Inputs, MODES, takes};
 #[derive(Clone, Copy)]
 pub struct MotionInputs {
     /// In internal units: the first for an axis, the first ones in the group's order for a group.
+    /// Those of a CamIn aren't read yet.
     pub positions: [i64; 6],
     /// Internal units per cycle.
     pub velocity: i64,
@@ -39,6 +42,7 @@ pub struct MotionInputs {
 /// The inputs that a struct gives a block of this kind, which acts on this many axes. None where
 /// the kind takes a mode and there is none of the number.
 pub fn inputs_given(kind: BlockKind, axes: usize, given: &MotionInputs) -> Option<Inputs>
+    requires { axes ≤ 255 }
     ensures { result ≡ spec.inputs_given kind axes given.now }
 {
     match mode_given(kind, given.mode) {
@@ -60,16 +64,22 @@ fn mode_given(kind: BlockKind, number: u32) -> Option<BufferMode>
 
 // The inputs in a struct, with this mode.
 fn inputs_in(kind: BlockKind, axes: usize, given: &MotionInputs, mode: BufferMode) -> Inputs
+    requires { axes ≤ 255 }
     ensures { result ≡ spec.inputs_in kind axes given.now mode }
 {
     Inputs {
         execute: given.execute != 0,
-        positions: positions_in(takes(kind, Input::Position), axes, &given.positions),
+        positions: positions_in(
+            may_give(kind, Input::Position),
+            position_count(kind, axes as u8) as usize,
+            &given.positions,
+        ),
         velocity: number_or(takes(kind, Input::Velocity), 0, given.velocity),
         acceleration: number_or(takes(kind, Input::Acceleration), 0, given.acceleration),
         deceleration: number_or(takes(kind, Input::Deceleration), 0, given.deceleration),
         jerk: number_or(takes(kind, Input::Jerk), 0, given.jerk),
         mode,
+        direction: Direction::Shortest,
         master: master_or_first(takes(kind, Input::Master), given.master),
         numerator: number_or(takes(kind, Input::Numerator), 1, given.numerator),
         denominator: number_or(takes(kind, Input::Denominator), 1, given.denominator),
@@ -77,12 +87,12 @@ fn inputs_in(kind: BlockKind, axes: usize, given: &MotionInputs, mode: BufferMod
     }
 }
 
-// The positions of this many axes where they are taken, and else none.
-fn positions_in(taken: bool, axes: usize, positions: &[i64; 6]) -> [i64; 6]
-    ensures { result ≡ spec.positions_in taken axes positions.now }
+// This many positions where they are taken, and else none.
+fn positions_in(taken: bool, count: usize, positions: &[i64; 6]) -> [i64; 6]
+    ensures { result ≡ spec.positions_in taken count positions.now }
 {
     if taken {
-        positions_from(&positions[..axes.min(6)])
+        positions_from(&positions[..count.min(6)])
     } else {
         [0; 6]
     }

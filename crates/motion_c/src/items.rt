@@ -38,7 +38,8 @@ pub struct MotionBlockRow {
     /// The number of its kind: 0 Power, 1 Reset, 2 Home, 3 Stop, 4 Halt, 5 MoveAbsolute,
     /// 6 MoveRelative, 7 MoveVelocity, 8 GearIn, 9 GearOut, 10 CamIn, 11 CamOut, 12 GroupEnable,
     /// 13 GroupDisable, 14 GroupReset, 15 GroupStop, 16 GroupHalt, 17 MoveLinearAbsolute,
-    /// 18 MoveCircularAbsolute, 19 MoveAdditive.
+    /// 18 MoveCircularAbsolute, 19 MoveAdditive, 20 GearInPos, 21 SetOverride,
+    /// 22 GroupSetOverride.
     pub kind: u32,
     /// The number of the axis or group on which it acts.
     pub object: u8,
@@ -196,5 +197,8 @@ fn kind_number(kind: BlockKind) -> u32
         BlockKind::MoveLinearAbsolute => 17,
         BlockKind::MoveCircularAbsolute => 18,
         BlockKind::MoveAdditive => 19,
+        BlockKind::GearInPos => 20,
+        BlockKind::SetOverride => 21,
+        BlockKind::GroupSetOverride => 22,
     }
 }

@@ -65,8 +65,19 @@ fn are_same<T: Same>(first: &[T], second: &[T]) -> bool
 
 impl Same for AxisDef {
     fn is_same(&self, other: &AxisDef) -> bool {
-        self.name.is(&other.name) && self.limits.is_same(&other.limits) && open_alike(self, other)
+        self.name.is(&other.name)
+            && self.limits.is_same(&other.limits)
+            && open_alike(self, other)
+            && turn_alike(self, other)
     }
+}
+
+// Whether two axes have the same limit of jerk, and both turn for ever or neither does.
+fn turn_alike(axis: &AxisDef, other: &AxisDef) -> bool
+    ensures { IsTrue result ↔ ((axis.now.jmax ≡ other.now.jmax) ×
+        (axis.now.modulo ≡ other.now.modulo)) }
+{
+    axis.jmax == other.jmax && axis.modulo == other.modulo
 }
 
 // Whether the drives of two axes count alike, and both axes open in the same way.
@@ -99,7 +110,7 @@ impl Same for GroupDef {
 
 impl Same for CamTable {
     fn is_same(&self, other: &CamTable) -> bool {
-        are_same(self.points(), other.points())
+        self.sort() == other.sort() && are_same(self.points(), other.points())
     }
 }
 
