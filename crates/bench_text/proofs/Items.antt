@@ -1,26 +1,30 @@
 -- What the lines of the machine part leave.
 -- for: read_bench
 use Rattle.std.proofs.Common.{◌≡◌, ℕ, Ok, List, [], ◌∷◌, ◌++◌, refl, sym, ap, subst, lit≤}
+use Rattle.std.specs.Prelude.{nat_le, length}
+use Rattle.cam_table.specs.declared.table.Sort.{Sort}
 use Rattle.plc_types.specs.declared.axis.AxisDef.{AxisDef}
 use Rattle.plc_types.specs.declared.limits.Limits.{Limits}
 use Rattle.line_text.specs.Reading.{each_of}
-use Rattle.line_text.specs.Rules.{in_range}
+use Rattle.line_text.specs.Rules.{broken_unless, in_range}
 use Rattle.machine_words.specs.Drives.{drive_in}
 use Rattle.machine_words.specs.Items.{task_meaning}
 use Rattle.machine_words.specs.Names.{axis_named, kind_of, object_named, task_at}
 use Rattle.machine_words.specs.Numbers.{number}
 use Rattle.machine_words.specs.Rules.{broken_by, rule_of}
-use Rattle.machine_words.specs.RuleNumbers.{out_of_range, wrong_name}
+use Rattle.machine_words.specs.RuleNumbers.{out_of_range, wrong_count, wrong_name}
 use Rattle.motion_history.specs.Drives.{IsDrive}
 use Rattle.motion_history.specs.Faults.{axis_fault, block_fault, group_fault, name_fault, task_fault}
 use Rattle.motion_history.specs.Setup.{Setup}
+use Rattle.motion_history.specs.declared.axes.AxisParameters.{AxisParameters}
 use Rattle.motion_history.specs.declared.drives.DriveDef.{DriveDef}
 use Rattle.motion_history.specs.declared.refused.TraceVersion.{TraceVersion}
 use Rattle.motion_history.specs.declared.refused.TraceVersion.TheVariants.{One, Two, Three}
 use Rattle.bench_text.specs.BenchState.{BrakesAsItSpeedsUp, IsLineOf}
 use Rattle.bench_text.specs.Drives.{drive_meaning, item_rules}
 use Rattle.bench_text.specs.Events.{cycle_meaning, end_meaning}
-use Rattle.bench_text.specs.Items.{axis_added, axis_meaning, block_meaning, group_meaning, limit_meaning, limits_of, placed_of, point, table_meaning}
+use Rattle.bench_text.specs.Axes.{axis_meaning, axis_of, extras_in, limits_of, parameters_of, placed_of}
+use Rattle.bench_text.specs.Items.{block_meaning, group_meaning, limit_meaning, point, sort_at, table_from, table_meaning}
 use Rattle.bench_text.specs.Named.{task_named}
 use Rattle.bench_text.specs.declared.bench.BenchLine.{BenchLine}
 use Rattle.bench_text.specs.declared.bench.BenchLine.TheVariants.{Cycles, End}
@@ -54,11 +58,13 @@ group-axes s (name ∷ names) u h =
     let is = ok_is _ _ u refl fit.2 in
     ap (λ (v : Setup). v.axes) (sym is)
 
-pub table-axes : (s : Setup) (words : List (List ℕ)) (u : Setup) → table_meaning s words ≡ Ok u → u.axes ≡ s.axes
-unfolding table_meaning
-table-axes s words u h =
-    let points = bind_ok (each_of point words) _ u h in
-    ap (λ (v : Setup). v.axes) (table_added-is item_rules s u points.0 points.2)
+pub table-axes : (v : TraceVersion) (s : Setup) (words : List (List ℕ)) (u : Setup) → table_meaning v s words ≡ Ok u → u.axes ≡ s.axes
+unfolding table_meaning table_from
+table-axes v s words u h =
+    let t : Sort × List (List ℕ) = sort_at v words in
+    let some = bind_ok (broken_unless (nat_le 1 (length t.1)) wrong_count) _ u h in
+    let points = bind_ok (each_of point t.1) _ u some.2 in
+    ap (λ (v : Setup). v.axes) (table_added-is item_rules s u t.0 points.0 points.2)
 
 pub task-axes : (s : Setup) (words : List (List ℕ)) (u : Setup) → task_meaning s words ≡ Ok u → u.axes ≡ s.axes
 unfolding task_meaning
@@ -93,23 +99,16 @@ pub record AddsAxis (version : TraceVersion) (s u : Setup) : Type 0 where
   pub axes : u.axes ≡ s.axes ++ added ∷ []
   pub braking : version ≡ One → BrakesAsItSpeedsUp added
 
--- an axis of these limits more
-record AddsWithin (s u : Setup) (l : Limits) : Type 0 where
-  added : AxisDef
-  axes : u.axes ≡ s.axes ++ added ∷ []
-  limits : added.limits ≡ l
-
-axis_added-is : (s : Setup) (name : List ℕ) (limits behind : List (List ℕ)) (u : Setup) → axis_added s name limits behind ≡ Ok u →
-    (l : Limits) × (limits_of limits ≡ Ok l) × AddsWithin s u l
-unfolding axis_added
-axis_added-is s name limits behind u h =
-    let free = bind_ok (broken_by rule_of (name_fault s name)) _ u h in
-    let l = bind_ok (limits_of limits) _ u free.2 in
-    let p = bind_ok (placed_of behind) _ u l.2 in
-    let fit = bind_ok (broken_by rule_of (axis_fault s name l.0 p.0.inc p.0.start)) _ u p.2 in
-    let d : AxisDef = record { name = name; limits = l.0; inc = p.0.inc; start = p.0.start; ready = p.0.ready } in
-    let t : Setup = record s { axes = s.axes ++ d ∷ [] } in
-    (l.0, l.1, record { added = d; axes = ap (λ (v : Setup). v.axes) (sym (ok_is (Ok t) t u refl fit.2)); limits = refl })
+-- what the words behind the limits say has these limits
+placed-limits : (v : TraceVersion) (l : Limits) (words : List (List ℕ)) (p : AxisParameters) → placed_of v l words ≡ Ok p → p.limits ≡ l
+unfolding placed_of
+placed-limits v l [] p h = absurd (cc)
+placed-limits v l (inc ∷ []) p h = absurd (cc)
+placed-limits v l (inc ∷ start ∷ behind) p h =
+    let i = bind_ok (number inc) _ p h in
+    let place = bind_ok (number start) _ p i.2 in
+    let e = bind_ok (extras_in v behind) _ p place.2 in
+    sym (ap (λ (q : AxisParameters). q.limits) (ok_is _ _ p refl e.2))
 
 limits-even : (lo hi vmax amax : List ℕ) (l : Limits) → limits_of (lo ∷ hi ∷ vmax ∷ amax ∷ amax ∷ []) ≡ Ok l → l.dmax ≡ l.amax
 unfolding limits_of
@@ -124,25 +123,34 @@ limits-even lo hi vmax amax l h =
     let P : Limits → Type 0 = λ k. k.dmax ≡ k.amax in
     subst P is (ok_is (number amax) d.0 a.0 d.1 a.1)
 
-even-axis : (s : Setup) (name lo hi vmax amax : List ℕ) (behind : List (List ℕ)) (u : Setup) →
-    axis_added s name (lo ∷ hi ∷ vmax ∷ amax ∷ amax ∷ []) behind ≡ Ok u → AddsAxis One s u
-even-axis s name lo hi vmax amax behind u h =
-    let is = axis_added-is s name (lo ∷ hi ∷ vmax ∷ amax ∷ amax ∷ []) behind u h in
-    let even : is.0.dmax ≡ is.0.amax = limits-even lo hi vmax amax is.0 is.1 in
+-- in version 1 an axis brakes as hard as it speeds up
+parameters-even : (words : List (List ℕ)) (p : AxisParameters) → parameters_of One words ≡ Ok p → p.limits.dmax ≡ p.limits.amax
+unfolding parameters_of
+parameters-even (lo ∷ hi ∷ vmax ∷ amax ∷ behind) p h =
+    let l = bind_ok (limits_of (lo ∷ hi ∷ vmax ∷ amax ∷ amax ∷ [])) _ p h in
     let P : Limits → Type 0 = λ k. k.dmax ≡ k.amax in
-    record { added = is.2.added; axes = is.2.axes; braking = λ one. subst P (sym is.2.limits) even }
+    subst P (sym (placed-limits One l.0 behind p l.2)) (limits-even lo hi vmax amax l.0 l.1)
+parameters-even _ p h = absurd (cc)
 
-other-axis : (version : TraceVersion) → (version ≡ One → ⊥) → (s : Setup) (name : List ℕ) (limits behind : List (List ℕ)) (u : Setup) → axis_added s name limits behind ≡ Ok u → AddsAxis version s u
-other-axis version other s name limits behind u h =
-    let is = axis_added-is s name limits behind u h in
-    record { added = is.2.added; axes = is.2.axes; braking = λ one. absurd (other one) }
+parameters-braking : (v : TraceVersion) (words : List (List ℕ)) (p : AxisParameters) → parameters_of v words ≡ Ok p → v ≡ One → p.limits.dmax ≡ p.limits.amax
+parameters-braking One words p h one = parameters-even words p h
+parameters-braking Two words p h one = absurd (cc)
+parameters-braking Three words p h one = absurd (cc)
 
 pub axis-adds : (version : TraceVersion) (s : Setup) (words : List (List ℕ)) (u : Setup) → axis_meaning version s words ≡ Ok u → AddsAxis version s u
 unfolding axis_meaning
-axis-adds One s (name ∷ lo ∷ hi ∷ vmax ∷ amax ∷ behind) u h = even-axis s name lo hi vmax amax behind u h
-axis-adds Two s (name ∷ lo ∷ hi ∷ vmax ∷ amax ∷ dmax ∷ behind) u h = other-axis Two (λ one. cc) s name (lo ∷ hi ∷ vmax ∷ amax ∷ dmax ∷ []) behind u h
-axis-adds Three s (name ∷ lo ∷ hi ∷ vmax ∷ amax ∷ dmax ∷ behind) u h = other-axis Three (λ one. cc) s name (lo ∷ hi ∷ vmax ∷ amax ∷ dmax ∷ []) behind u h
-axis-adds version s _ u h = absurd (cc)
+axis-adds version s [] u h = absurd (cc)
+axis-adds version s (name ∷ words) u h =
+    let free = bind_ok (broken_by rule_of (name_fault s name)) _ u h in
+    let p = bind_ok (parameters_of version words) _ u free.2 in
+    let fit = bind_ok (broken_by rule_of (axis_fault s name p.0)) _ u p.2 in
+    let d : AxisDef = axis_of name p.0 in
+    let t : Setup = record s { axes = s.axes ++ d ∷ [] } in
+    record {
+      added = d;
+      axes = ap (λ (v : Setup). v.axes) (sym (ok_is (Ok t) t u refl fit.2));
+      braking = λ one. parameters-braking version words p.0 p.1 one;
+    }
 
 -- ---- drives
 

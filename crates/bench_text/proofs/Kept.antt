@@ -24,7 +24,8 @@ use Rattle.bench_text.specs.Calls.{call_meaning}
 use Rattle.bench_text.specs.Drives.{drive_meaning}
 use Rattle.bench_text.specs.Events.{cycle_meaning, end_meaning}
 use Rattle.bench_text.specs.Forms.{form_of, is_counted, is_part, part_of}
-use Rattle.bench_text.specs.Items.{axis_meaning, block_meaning, group_meaning, limit_meaning, table_meaning}
+use Rattle.bench_text.specs.Axes.{axis_meaning}
+use Rattle.bench_text.specs.Items.{block_meaning, group_meaning, limit_meaning, table_meaning}
 use Rattle.bench_text.specs.Reading.{axes_meaning, drives_meaning, form_in, go_meaning, is_again, later_meaning, limits_meaning, meaning, opening, version_meaning, version_of, with_line, with_setup, words_meaning}
 use Rattle.bench_text.specs.SoFar.{SoFar}
 use Rattle.bench_text.specs.UnderWay.{IsSoFar}
@@ -188,13 +189,13 @@ words-kept fits s t form.Limit words k p h = limits-kept s t words k (is_machine
 words-kept fits s t form.Axis words k p h = axes-kept s t words k (is_machine s.part p) h
 words-kept fits s t form.Drive words k p h = drives-kept s t words k h
 words-kept fits s t form.Group words k p h = with_setup-kept s t (group_meaning s.setup words) k (is_machine s.part p) (group-axes s.setup words) h
-words-kept fits s t form.Table words k p h = with_setup-kept s t (table_meaning s.setup words) k (is_machine s.part p) (table-axes s.setup words) h
+words-kept fits s t form.Table words k p h = with_setup-kept s t (table_meaning s.version s.setup words) k (is_machine s.part p) (table-axes s.version s.setup words) h
 words-kept fits s t form.Task words k p h = with_setup-kept s t (task_meaning s.setup words) k (is_machine s.part p) (task-axes s.setup words) h
 words-kept fits s t form.Block words k p h = with_setup-kept s t (block_meaning s.version s.setup words) k (is_machine s.part p) (block-axes s.version s.setup words) h
 words-kept fits s t form.Go words k p h = go-kept s t k h
 words-kept fits s t form.Call words k p h =
     let ev = is_events s.part p in
-    with_line-kept s t (call_meaning s.setup words) k ev (λ l e. call-line fits s.setup words l (k.some (rw ev refl)) e) h
+    with_line-kept s t (call_meaning s.version s.setup words) k ev (λ l e. call-line fits s.version s.setup words l (k.some (rw ev refl)) e) h
 words-kept fits s t form.Cycle words k p h = with_line-kept s t (cycle_meaning words) k (is_events s.part p) (cycle-line s.setup words) h
 words-kept fits s t form.End words k p h = with_line-kept s t (end_meaning s.setup words) k (is_events s.part p) (end-line s.setup words) h
 

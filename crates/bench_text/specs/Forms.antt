@@ -4,7 +4,7 @@ use Rattle.std.specs.List.{find}
 use Rattle.std.specs.Option.{option_map_or}
 use Rattle.std.specs.Str.{bytes_eq}
 use Rattle.motion_history.specs.declared.refused.TraceVersion.{TraceVersion}
-use Rattle.motion_history.specs.declared.refused.TraceVersion.TheVariants.{One}
+use Rattle.motion_history.specs.declared.refused.TraceVersion.TheVariants.{One, Two, Three}
 use Rattle.bench_text.specs.declared.form.Form.{Form}
 use Rattle.bench_text.specs.declared.form.Form.TheVariants as form
 use Rattle.bench_text.specs.declared.form.Part.{Part}
@@ -63,11 +63,13 @@ least_of version form.Call = 2
 least_of version form.Cycle = 0
 least_of version form.End = 1
 
--- and at most, where there is a most
+-- and at most, where there is a most: behind the numbers of an axis stands `ready`, and from version
+-- 3 on `modulo` and `jmax=N`
 abbrev pub most_of : TraceVersion → Form → Option ℕ
 most_of version form.Limit = Some 2
 most_of One form.Axis = Some 8
-most_of version form.Axis = Some 9
+most_of Two form.Axis = Some 9
+most_of Three form.Axis = Some 11
 most_of version form.Drive = None
 most_of version form.Group = Some 7
 most_of version form.Table = None

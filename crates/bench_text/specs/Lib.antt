@@ -1,6 +1,7 @@
 pub mod Forms
 pub mod SoFar
 pub mod Named
+pub mod Axes
 pub mod Items
 pub mod Drives
 pub mod Calls

@@ -15,12 +15,13 @@ use Rattle.motion_history.specs.declared.refused.TextFault.TheVariants.{Refused,
 use Rattle.motion_history.specs.declared.refused.TextRefused.{TextRefused}
 use Rattle.motion_history.specs.declared.refused.TraceVersion.{TraceVersion}
 use Rattle.motion_history.specs.declared.refused.TraceVersion.TheVariants.{One, Two, Three}
+use Rattle.bench_text.specs.Axes.{axis_meaning}
 use Rattle.bench_text.specs.BenchState.{BenchState}
 use Rattle.bench_text.specs.Calls.{call_meaning}
 use Rattle.bench_text.specs.Drives.{drive_meaning, is_stated}
 use Rattle.bench_text.specs.Events.{cycle_meaning, end_meaning}
 use Rattle.bench_text.specs.Forms.{form_of, is_counted, is_part, part_of}
-use Rattle.bench_text.specs.Items.{axis_meaning, block_meaning, group_meaning, limit_meaning, table_meaning}
+use Rattle.bench_text.specs.Items.{block_meaning, group_meaning, limit_meaning, table_meaning}
 use Rattle.bench_text.specs.SoFar.{SoFar}
 use Rattle.bench_text.specs.declared.bench.BenchLine.{BenchLine}
 use Rattle.bench_text.specs.declared.form.Form.{Form}
@@ -117,7 +118,7 @@ drives_meaning s words = do
   d ← drive_meaning s.setup words
   Ok (record s { drives = slice_set s.drives d.0 d.1; stated = s.stated ++ d.0 ∷ [] })
 
--- `go` ends the machine part, which is whole
+-- `go` ends the machine part, which is whole and asks for nothing that isn't built
 unfoldable pub go_meaning : SoFar → Result SoFar ℕ
 go_meaning s = do
   _ ← broken_unless s.limited not_whole
@@ -130,11 +131,11 @@ words_meaning s form.Limit words = limits_meaning s words
 words_meaning s form.Axis words = axes_meaning s words
 words_meaning s form.Drive words = drives_meaning s words
 words_meaning s form.Group words = with_setup s (group_meaning s.setup words)
-words_meaning s form.Table words = with_setup s (table_meaning s.setup words)
+words_meaning s form.Table words = with_setup s (table_meaning s.version s.setup words)
 words_meaning s form.Task words = with_setup s (task_meaning s.setup words)
 words_meaning s form.Block words = with_setup s (block_meaning s.version s.setup words)
 words_meaning s form.Go words = go_meaning s
-words_meaning s form.Call words = with_line s (call_meaning s.setup words)
+words_meaning s form.Call words = with_line s (call_meaning s.version s.setup words)
 words_meaning s form.Cycle words = with_line s (cycle_meaning words)
 words_meaning s form.End words = with_line s (end_meaning s.setup words)
 

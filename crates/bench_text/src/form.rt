@@ -127,7 +127,8 @@ fn most_of(version: TraceVersion, form: Form) -> Option<usize>
 {
     match (form, version) {
         (Form::Axis, TraceVersion::One) => Some(8),
-        (Form::Axis, _) => Some(9),
+        (Form::Axis, TraceVersion::Two) => Some(9),
+        (Form::Axis, TraceVersion::Three) => Some(11),
         (Form::Group, _) => Some(7),
         (Form::Block, _) => Some(4),
         (Form::Limit, _) => Some(2),

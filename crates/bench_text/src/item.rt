@@ -1,17 +1,18 @@
 // The limits, groups, cam tables and blocks of a bench.
 
+ghost use Rattle.std.specs.Prelude.{◌≡◌};
 ghost use Rattle.line_text.specs.Reading.{Takes};
 ghost use Rattle.line_text.specs.Texts.{texts};
 ghost use Rattle.bench_text.specs.Items as spec;
 
 use crate::name::task_named;
 use crate::point::points;
-use line_text::{LineFault, in_range};
+use line_text::{LineFault, broken_unless, in_range, says};
 use machine_words::{
     ItemRules, OUT_OF_RANGE, TOO_MANY, WRONG_COUNT, WRONG_NAME, axes_named, free_name, kind_of,
     number, object_named, refusal_of,
 };
-use motion_history::{Builder, MOST_CYCLES, MOST_ENTRIES, TraceVersion};
+use motion_history::{Builder, MOST_CYCLES, MOST_ENTRIES, Sort, TraceVersion};
 use std::alloc::Global;
 
 /// The rules that the numbers of an item break.
@@ -54,13 +55,52 @@ pub fn add_group(alloc: Global, machine: &mut Builder, words: &[&[u8]]) -> Resul
     }
 }
 
-/// Adds the cam table of a line.
-#[tactic(auto, unfolding(crate::specs::Items::table_meaning))]
-pub fn add_table(alloc: Global, machine: &mut Builder, words: &[&[u8]]) -> Result<(), LineFault>
-    ensures { Takes (spec.table_meaning machine.old (texts words.now)) machine.new result }
+// The sort that a word says.
+fn sort_named(version: TraceVersion, word: &[u8]) -> Option<Sort>
+    ensures { result ≡ spec.sort_named version word.now }
 {
+    match version {
+        TraceVersion::One | TraceVersion::Two => None,
+        TraceVersion::Three => {
+            if says(word, b"once") {
+                Some(Sort::Once)
+            } else if says(word, b"periodic") {
+                Some(Sort::Periodic)
+            } else {
+                None
+            }
+        }
+    }
+}
+
+// The sort of a table, plain where no word says it, and the words of its points.
+#[tactic(auto, unfolding(crate::specs::Items::sort_at))]
+fn sort_at<'a, 'b>(version: TraceVersion, words: &'b [&'a [u8]]) -> (Sort, &'b [&'a [u8]])
+    ensures { (result.0, texts result.1.now) ≡ spec.sort_at version (texts words.now) }
+{
+    let [word, behind @ ..] = words else {
+        return (Sort::Plain, words);
+    };
+    match sort_named(version, word) {
+        Some(sort) => (sort, behind),
+        None => (Sort::Plain, words),
+    }
+}
+
+/// Adds the cam table of a line.
+#[tactic(auto, unfolding(crate::specs::Items::table_meaning, crate::specs::Items::table_from))]
+pub fn add_table(
+    alloc: Global,
+    machine: &mut Builder,
+    version: TraceVersion,
+    words: &[&[u8]],
+) -> Result<(), LineFault>
+    ensures { Takes (spec.table_meaning version machine.old (texts words.now)) machine.new result }
+{
+    let (sort, words) = sort_at(version, words);
+    broken_unless(1 <= words.len(), WRONG_COUNT)?;
     let points = points(alloc, words)?;
-    machine_words::add_table(alloc, RULES, machine, points.as_slice())
+    machine_words::add_table(alloc, RULES, machine, sort, points.as_slice())
 }
 
 /// Adds the block of a line.

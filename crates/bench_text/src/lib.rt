@@ -9,6 +9,7 @@ mod bench;
 mod call;
 mod drive;
 mod event;
+mod extras;
 mod form;
 mod item;
 mod name;

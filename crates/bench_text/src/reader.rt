@@ -18,7 +18,7 @@ use crate::item::{add_block, add_group, add_table, set_room};
 use crate::version::version_of;
 use line_text::{LineFault, LineReader, broken_unless};
 use machine_words::{
-    KnownBlocks, NOT_WHOLE, OUT_OF_PLACE, WRONG_COUNT, add_task, is_whole, plain_drive,
+    KnownBlocks, NOT_WHOLE, OUT_OF_PLACE, WRONG_COUNT, add_task, plain_drive, whole,
 };
 use motion_history::{Builder, DriveDef, TraceVersion};
 use std::alloc::Global;
@@ -187,11 +187,11 @@ impl BenchReader {
     // Takes a line of a cam table.
     fn read_table(&mut self, words: &[&[u8]]) -> Result<(), LineFault>
         ensures { Takes
-            (spec.with_setup self.old (items.table_meaning self.old.setup (texts words.now)))
-            self.new result }
+            (spec.with_setup self.old (items.table_meaning self.old.version self.old.setup
+            (texts words.now))) self.new result }
     {
         let alloc = self.alloc;
-        add_table(alloc, &mut self.machine, words)
+        add_table(alloc, &mut self.machine, self.version, words)
     }
 
     // Takes the end of the machine part.
@@ -200,7 +200,7 @@ impl BenchReader {
         ensures { Takes (spec.go_meaning self.old) self.new result }
     {
         broken_unless(self.limited, NOT_WHOLE)?;
-        broken_unless(is_whole(&self.machine), NOT_WHOLE)?;
+        whole(&self.machine)?;
         self.part = Part::Events;
         Ok(())
     }
@@ -208,10 +208,10 @@ impl BenchReader {
     // Takes a line of a call.
     fn read_call(&mut self, words: &[&[u8]]) -> Result<(), LineFault>
         ensures { Takes
-            (spec.with_line self.old (calls.call_meaning self.old.setup (texts words.now)))
-            self.new result }
+            (spec.with_line self.old (calls.call_meaning self.old.version self.old.setup
+            (texts words.now))) self.new result }
     {
-        let line = call_of(self.alloc, &mut self.known, &self.machine, words)?;
+        let line = call_of(self, words)?;
         self.push(line)
     }
 

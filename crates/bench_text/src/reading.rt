@@ -18,7 +18,7 @@ use motion_history::{Builder, DriveDefs, TextFault, TraceVersion};
 use std::alloc::Global;
 
 /// The bench that a text is. A text that is none is refused at its first line that breaks a rule,
-/// by the first rule that it breaks: B1 to B10. It takes memory for the words of one line at a
+/// by the first rule that it breaks: B1 to B11. It takes memory for the words of one line at a
 /// time, besides the bench.
 pub fn read_bench(alloc: Global, text: &[u8]) -> Result<Bench, TextFault>
     // What is read is a bench of the text.

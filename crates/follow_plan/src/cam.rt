@@ -13,7 +13,7 @@ use motion_numbers::MOST_PLACE;
 /// between which the master lies, rounded down; before the first point the position of the first,
 /// after the last that of the last. Positions are in internal units.
 pub fn cam_position(table: &CamTable, master: i64) -> i64
-    ensures value { result ≡ cam_position_of table.now master }
+    ensures value { result ≡ cam_position_of table.now.points master }
     ensures small { IsPlace result }
 {
     let points = table.points();

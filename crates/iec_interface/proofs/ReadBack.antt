@@ -11,8 +11,8 @@ use Rattle.iec_interface.specs.Inputs.{input_of, input_text, inputs_of}
 use Rattle.iec_interface.specs.Objects.{names_object, object_of}
 use Rattle.iec_interface.specs.Outputs.{output_of, output_text, outputs_of}
 use Rattle.iec_interface.specs.Words.{direction_named, direction_text, mode_named}
-use Rattle.iec_interface.specs.declared.word.Direction.{Direction}
-use Rattle.iec_interface.specs.declared.word.Direction.TheVariants as direction
+use Rattle.plc_types.specs.declared.kind.Direction.{Direction}
+use Rattle.plc_types.specs.declared.kind.Direction.TheVariants as direction
 
 pub inputs : (m : Motion) → All (λ i. input_of m (input_text i) ≡ Some i) (inputs_of m)
 unfolding input_of input_text inputs_of

@@ -7,7 +7,7 @@ use Rattle.iec_interface.specs.Inputs.{input_of, input_text, inputs_of}
 use Rattle.iec_interface.specs.Objects.{names_object}
 use Rattle.iec_interface.specs.Outputs.{output_of, output_text, outputs_of}
 use Rattle.iec_interface.specs.Words.{direction_named, direction_text, mode_named}
-use Rattle.iec_interface.specs.declared.word.Direction.{Direction}
+use Rattle.plc_types.specs.declared.kind.Direction.{Direction}
 
 -- each input and output of a block is read as the one that it is written as, no input as an output
 -- or as the block's axis or group, and each word with and without `mc` as what it is for

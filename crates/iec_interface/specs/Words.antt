@@ -6,9 +6,9 @@ use Rattle.std.specs.Str.{str_eq_ignore_ascii_case}
 use Rattle.plc_types.specs.KindNames.{mode_name}
 use Rattle.plc_types.specs.declared.kind.BufferMode.{BufferMode}
 use Rattle.plc_types.specs.declared.kind_names.TheConstants.{MODES}
-use Rattle.iec_interface.specs.declared.word.Direction.{Direction}
-use Rattle.iec_interface.specs.declared.word.Direction.TheVariants as direction
-use Rattle.iec_interface.specs.declared.word.TheConstants.{DIRECTIONS}
+use Rattle.plc_types.specs.declared.kind.Direction.{Direction}
+use Rattle.plc_types.specs.declared.kind.Direction.TheVariants as direction
+use Rattle.plc_types.specs.declared.kind_names.TheConstants.{DIRECTIONS}
 
 -- a word without `mc` in front
 abbrev pub without_mc : List ℕ → List ℕ

@@ -14,4 +14,5 @@ pub use input::{Input, Taken, input_of, inputs_of, taken_by};
 pub use laws::interfaces_are_read_back;
 pub use object::{Object, names_object, object_of};
 pub use output::{Output, output_of, outputs_of, type_of};
-pub use word::{Direction, direction_named, mode_named};
+pub use plc_types::Direction;
+pub use word::{direction_named, mode_named};

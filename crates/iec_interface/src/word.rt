@@ -3,21 +3,7 @@
 ghost use Rattle.std.specs.Prelude.{◌≡◌};
 ghost use Rattle.iec_interface.specs.Words as spec;
 
-use plc_types::{BufferMode, MODES, mode_name};
-
-/// The directions of a motion.
-#[derive(Clone, Copy, Debug, PartialEq, Eq)]
-pub enum Direction {
-    Shortest,
-    Positive,
-    Negative,
-}
-
-const DIRECTIONS: [Direction; 3] = [
-    Direction::Shortest,
-    Direction::Positive,
-    Direction::Negative,
-];
+use plc_types::{BufferMode, DIRECTIONS, Direction, MODES, mode_name};
 
 // A word without `mc` in front.
 fn without_mc(word: &[u8]) -> &[u8]

@@ -46,6 +46,8 @@ axis_of i = record {
   inc = pos 1000;
   start = pos first_place;
   ready = true;
+  jmax = pos 0;
+  modulo = false;
 }
 
 -- the block Mij, which moves the axis Gi

@@ -4,7 +4,7 @@ ghost use Rattle.std.specs.Prelude.{◌≡◌, [], IfErr, IfOk, OnOk};
 ghost use Rattle.motion_history.specs.Setup.{IsSetup};
 ghost use Rattle.load_job.specs.Machine as spec;
 
-use motion_history::{BlockKind, Builder, Config, ConfigFault, Limits};
+use motion_history::{AxisParameters, BlockKind, Builder, Config, ConfigFault, Limits};
 use std::alloc::Global;
 
 /// How many axes there are.
@@ -13,13 +13,20 @@ pub const AXES: u8 = 8;
 /// How many blocks each axis has.
 pub const BLOCKS: u8 = 4;
 
-/// The limits of each axis.
-const LIMITS: Limits = Limits {
-    lo: 0,
-    hi: 1_000_000_000,
-    vmax: 1_000_000,
-    amax: 10_000,
-    dmax: 10_000,
+/// Each axis.
+const AXIS: AxisParameters = AxisParameters {
+    limits: Limits {
+        lo: 0,
+        hi: 1_000_000_000,
+        vmax: 1_000_000,
+        amax: 10_000,
+        dmax: 10_000,
+    },
+    inc: 1000,
+    start: 500_000_000,
+    ready: true,
+    jmax: 0,
+    modulo: false,
 };
 
 /// The machine. Nothing but out of memory is in its way.
@@ -43,7 +50,7 @@ fn add_axes(machine: &mut Builder) -> Result<(), ConfigFault>
     ensures only { IfErr result (λ fault. fault ≡ ConfigFault.OutOfMemory) }
 {
     for axis in 0..AXES {
-        machine.axis(&[b'G', b'0' + axis], &LIMITS, 1000, 500_000_000, true)?;
+        machine.axis(&[b'G', b'0' + axis], &AXIS)?;
     }
     Ok(())
 }

@@ -1,9 +1,14 @@
 -- What items mean is what they add.
 -- for: read_config
-use Rattle.std.proofs.Common.{◌≡◌, ℕ, true, Some, None, Ok, List, length, refl, sym, ap, subst, ◌∙◌, arith}
-use Rattle.std.specs.Prelude.{nat_le, not}
-use Rattle.std.proofs.lemmas.Bool.{le-leb, leb-true}
+use Rattle.std.proofs.Common.{◌≡◌, ℕ, Bool, true, Option, Some, None, Ok, List, [], ◌∷◌, length, refl, sym, ap, subst, inl, inr, ◌∙◌, arith}
+use Rattle.std.specs.Prelude.{nat_le, not, pos}
+use Rattle.std.specs.List.{find}
+use Rattle.std.specs.Str.{bytes_eq}
+use Rattle.std.proofs.lemmas.Bool.{cases_Bool, le-leb, leb-true}
+use Rattle.std.proofs.lemmas.Slice.Eq.{bytes_eq-Decides}
 use Rattle.cam_table.specs.CamTable.{is_cam_table}
+use Rattle.cam_table.specs.declared.table.Sort.{Sort}
+use Rattle.cam_table.specs.declared.table.Sort.TheVariants as camsort
 use Rattle.fixed_units.specs.PerCycle.{per_cycle_of, per_cycle_squared_of}
 use Rattle.plc_types.specs.declared.limits.Limits.{Limits}
 use Rattle.line_text.specs.Reading.{each_of}
@@ -12,23 +17,26 @@ use Rattle.machine_words.specs.Drives.{drive_in}
 use Rattle.machine_words.specs.Names.{axis_at, axis_named}
 use Rattle.machine_words.specs.Rules.{broken_by}
 use Rattle.machine_words.specs.Tables.{table_added}
+use Rattle.machine_words.specs.Units.{jerk_of}
 use Rattle.motion_history.specs.Drives.{rise_above}
 use Rattle.motion_history.specs.Faults.{axis_fault, group_fault}
 use Rattle.motion_history.specs.Setup.{Setup}
+use Rattle.motion_history.specs.declared.axes.AxisParameters.{AxisParameters}
 use Rattle.motion_history.specs.declared.drives.DriveDef.{DriveDef}
-use Rattle.toml.specs.Data.{Members}
+use Rattle.toml.specs.Data.{Data, Members}
 use Rattle.machine_config.specs.Cases.{is_apart}
-use Rattle.machine_config.specs.Axes.{axis_meaning, limits_of, placed_of}
-use Rattle.machine_config.specs.Configured.{AddsAxis, AddsGroup, AddsTable, GivesDrive, GivesLimits, IsPoint, IsStep}
+use Rattle.machine_config.specs.Axes.{axis_meaning, limits_of, parameters_of}
+use Rattle.machine_config.specs.Configured.{AddsAxis, AddsGroup, AddsTable, GivesAxis, GivesDrive, GivesLimits, IsPoint, IsSort, IsStep}
 use Rattle.machine_config.specs.Drives.{drive_of}
 use Rattle.machine_config.specs.Groups.{group_meaning}
 use Rattle.machine_config.specs.Keys.{axis_keys, group_keys, has_keys, table_keys, value_at}
 use Rattle.machine_config.specs.Quantities.{point_of, quantity_at, quantity_or}
 use Rattle.machine_config.specs.Rules.{rule_of}
-use Rattle.machine_config.specs.Tables.{table_meaning}
-use Rattle.machine_config.specs.Values.{flag_at, integer_at, integers_at, text_at, texts_at}
-use Rattle.machine_config.specs.declared.axis.Placed.{Placed}
-use Rattle.machine_config.specs.declared.key.Key.TheVariants.{Amax, Axes, Dmax, Faults, Hi, Increment, Lag, Lo, Name, Points, Ready, Start, Vmax}
+use Rattle.machine_config.specs.Tables.{sort_in, sort_named, sort_of, sort_word, table_meaning}
+use Rattle.machine_config.specs.Values.{flag_at, integer_at, integers_at, text_at, text_in, texts_at}
+use Rattle.machine_config.specs.declared.key.Key.TheVariants.{Amax, Axes, Dmax, Faults, Hi, Increment, Jmax, Lag, Lo, Modulo, Name, Points, Ready, Start, Vmax}
+use Rattle.machine_config.specs.declared.key.Key.TheVariants as key
+use Rattle.machine_config.specs.declared.table.TheConstants.{SORTS}
 use Rattle.machine_config.specs.declared.machine.Machine.{Machine}
 use Rattle.machine_config.specs.RuleNumbers.{no_table, out_of_range, table_rules, wrong_count, wrong_key, wrong_name}
 use Rattle.line_text.proofs.Results.{bind_ok, found, holds, ok_is}
@@ -113,30 +121,57 @@ drive-read t d g =
 
 -- ---- axes
 
+parameters-told : AreSpelled → (cycle_us : ℕ) (t : Members) (p : AxisParameters) → parameters_of cycle_us t ≡ Ok p → GivesAxis cycle_us t p
+unfolding parameters_of quantity_at quantity_or
+parameters-told spelled cycle_us t p h =
+    let limits = bind_ok (limits_of cycle_us t) _ p h in
+    let inc = bind_ok (quantity_at Increment t) _ p limits.2 in
+    let start = bind_ok (quantity_at Start t) _ p inc.2 in
+    let jerk = bind_ok (quantity_or (pos 0) Jmax t) _ p start.2 in
+    let made : AxisParameters = record {
+      limits = limits.0;
+      inc = inc.0;
+      start = start.0;
+      ready = flag_at Ready t;
+      jmax = jerk_of jerk.0 cycle_us;
+      modulo = flag_at Modulo t;
+    } in
+    let is : made ≡ p = ok_is (Ok made) made p refl jerk.2 in
+    subst (λ q. GivesAxis cycle_us t q) is (record {
+      jerk = jerk.0;
+      limits = limits-told spelled cycle_us t limits.0 limits.1;
+      increment = quantity-told spelled (value_at Increment t) inc.0 inc.1;
+      start = quantity-told spelled (value_at Start t) start.0 start.1;
+      ready = refl;
+      jmax = quantity_or-told spelled (pos 0) (value_at Jmax t) jerk.0 jerk.1;
+      changes = refl;
+      modulo = refl;
+    })
+
+parameters-read : AreSpelled → (cycle_us : ℕ) (t : Members) (p : AxisParameters) → GivesAxis cycle_us t p → parameters_of cycle_us t ≡ Ok p
+unfolding parameters_of quantity_at quantity_or
+parameters-read spelled cycle_us t p g =
+    rw (
+      limits-read spelled cycle_us t p.limits g.limits,
+      quantity-read spelled _ p.inc g.increment,
+      quantity-read spelled _ p.start g.start,
+      quantity_or-read spelled (pos 0) _ g.jerk g.jmax,
+    )
+    (rw (g.ready, g.changes, g.modulo) refl)
+
 pub axis-told : AreSpelled → (m : Machine) (t : Members) (n : Machine) → axis_meaning m t ≡ Ok n → AddsAxis m t n
-unfolding axis_meaning placed_of quantity_at
+unfolding axis_meaning
 axis-told spelled m t n h =
-    let keys = bind_ok (broken_unless (has_keys axis_keys t) wrong_key) _ n h in
-    let limits = bind_ok (limits_of m.cycle_us t) _ n keys.2 in
-    let placed = bind_ok (placed_of t) _ n limits.2 in
-    let apart = bind_ok (broken_unless (is_apart m (text_at Name t)) wrong_name) _ n placed.2 in
-    let fits = bind_ok (broken_by rule_of (axis_fault m.config (text_at Name t) limits.0 placed.0.inc placed.0.start)) _ n apart.2 in
+    let keys = bind_ok (broken_unless (has_keys (axis_keys m.version) t) wrong_key) _ n h in
+    let parameters = bind_ok (parameters_of m.cycle_us t) _ n keys.2 in
+    let apart = bind_ok (broken_unless (is_apart m (text_at Name t)) wrong_name) _ n parameters.2 in
+    let fits = bind_ok (broken_by rule_of (axis_fault m.config (text_at Name t) parameters.0)) _ n apart.2 in
     let drive = bind_ok (drive_of t) _ n fits.2 in
-    let inc = bind_ok (quantity_at Increment t) _ placed.0 placed.1 in
-    let start = bind_ok (quantity_at Start t) _ placed.0 inc.2 in
-    let stands : Placed = record { inc = inc.0; start = start.0 } in
-    let at : stands ≡ placed.0 = ok_is (Ok stands) stands placed.0 refl start.2 in
     record {
-      axis = record { name = text_at Name t; limits = limits.0; inc = placed.0.inc; start = placed.0.start; ready = flag_at Ready t };
+      parameters = parameters.0;
       drive = drive.0;
-      gives_axis = record {
-        keys = holds _ wrong_key keys.0 keys.1;
-        name = refl;
-        limits = limits-told spelled m.cycle_us t limits.0 limits.1;
-        increment = quantity-told spelled (value_at Increment t) placed.0.inc (inc.1 ∙ ap (λ p. Ok p.inc) at);
-        start = quantity-told spelled (value_at Start t) placed.0.start (start.1 ∙ ap (λ p. Ok p.start) at);
-        ready = refl;
-      };
+      keys = holds _ wrong_key keys.0 keys.1;
+      gives_axis = parameters-told spelled m.cycle_us t parameters.0 parameters.1;
       gives_drive = drive-told t drive.0 drive.1;
       apart = holds _ wrong_name apart.0 apart.1;
       fits = faultless rule_of _ fits.0 fits.1;
@@ -144,23 +179,16 @@ axis-told spelled m t n h =
     }
 
 pub axis-read : AreSpelled → (m : Machine) (t : Members) (n : Machine) → AddsAxis m t n → axis_meaning m t ≡ Ok n
-unfolding axis_meaning placed_of quantity_at
+unfolding axis_meaning
 axis-read spelled m t n adds =
-    let g = adds.gives_axis in
-    let apart : is_apart m (text_at Name t) ≡ true = subst (λ name. is_apart m name ≡ true) g.name adds.apart in
-    let named : axis_fault m.config (text_at Name t) adds.axis.limits adds.axis.inc adds.axis.start ≡ None =
-    subst (λ name. axis_fault m.config name adds.axis.limits adds.axis.inc adds.axis.start ≡ None) g.name adds.fits in
     rw (
-      g.keys,
-      limits-read spelled m.cycle_us t adds.axis.limits g.limits,
-      quantity-read spelled _ adds.axis.inc g.increment,
-      quantity-read spelled _ adds.axis.start g.start,
-      apart,
-      named,
+      adds.keys,
+      parameters-read spelled m.cycle_us t adds.parameters adds.gives_axis,
+      adds.apart,
+      adds.fits,
       drive-read t adds.drive adds.gives_drive,
       adds.added,
-    )
-    (rw (← g.name, ← g.ready) refl)
+    ) refl
 
 -- ---- groups
 
@@ -193,25 +221,62 @@ group-read m t n adds =
 
 -- ---- cam tables
 
+-- what is found passes the test
+find_passes : {A : Type 0} (test : A → Bool) (xs : List A) (y : A) → find test xs ≡ Some y → test y ≡ true
+find_passes test [] y h = absurd (cc)
+find_passes test (x ∷ xs) y h =
+    elim (cases_Bool (test x)) [
+      | inl passes ↦ let e : Some x ≡ Some y = rw passes at h in let same : x ≡ y = cc in subst (λ z. test z ≡ true) same passes
+      | inr fails ↦ find_passes test xs y (rw fails at h)
+    ]
+
+sort_named-told : (word : List ℕ) (s : Sort) → sort_named word ≡ Some s → word ≡ sort_word s
+unfolding sort_named
+sort_named-told word s h = sym ((bytes_eq-Decides (sort_word s) word).0 (find_passes (λ r. bytes_eq (sort_word r) word) SORTS s h))
+
+sort_named-read : (s : Sort) → sort_named (sort_word s) ≡ Some s
+unfolding sort_word sort_named
+sort_named-read camsort.Plain = refl
+sort_named-read camsort.Once = refl
+sort_named-read camsort.Periodic = refl
+
+sort-told : (o : Option Data) (s : Sort) → sort_in o ≡ Ok s → IsSort o s
+sort-told None s h = sym (ok_is (Ok camsort.Plain) camsort.Plain s refl h)
+sort-told (Some d) s h = sort_named-told (text_in (Some d)) s (found (sort_named (text_in (Some d))) out_of_range s h)
+
+sort-read : (o : Option Data) (s : Sort) → IsSort o s → sort_in o ≡ Ok s
+sort-read None s is = ap (λ r. Ok r) (sym is)
+sort-read (Some d) s is = let e : sort_named (text_in (Some d)) ≡ Some s = ap sort_named is ∙ sort_named-read s in rw e refl
+
 pub table-told : AreSpelled → AreTold → (m : Machine) (t : Members) (n : Machine) → table_meaning m t ≡ Ok n → AddsTable m t n
-unfolding table_meaning table_added
+unfolding table_meaning table_added sort_of
 table-told spelled told m t n h =
-    let keys = bind_ok (broken_unless (has_keys table_keys t) wrong_key) _ n h in
+    let keys = bind_ok (broken_unless (has_keys (table_keys m.version) t) wrong_key) _ n h in
     let points = bind_ok (each_of point_of (texts_at Points t)) _ n keys.2 in
-    let config = bind_ok (table_added table_rules m.config points.0) _ n points.2 in
+    let sort = bind_ok (sort_of t) _ n points.2 in
+    let config = bind_ok (table_added table_rules m.config sort.0 points.0) _ n sort.2 in
     let makes = bind_ok (broken_unless (is_cam_table points.0) no_table) _ config.0 config.1 in
     let room = bind_ok (broken_unless (not (nat_le 16 (length m.config.tables))) wrong_count) _ config.0 makes.2 in
     let is = ok_is (Ok _) _ config.0 refl room.2 in
     record {
       points = points.0;
+      sort = sort.0;
       keys = holds _ wrong_key keys.0 keys.1;
       read = each-told point_of IsPoint (point-told spelled) (texts_at Points t) points.0 points.1;
+      named = sort-told (value_at key.Sort t) sort.0 sort.1;
       makes = (told points.0).0 (holds _ no_table makes.0 makes.1);
       room = has_room (length m.config.tables) (holds _ wrong_count room.0 room.1);
       added = sym (ap (λ c. record m { config = c }) is ∙ ok_is (Ok _) _ n refl config.2);
     }
 
 pub table-read : AreSpelled → AreTold → (m : Machine) (t : Members) (n : Machine) → AddsTable m t n → table_meaning m t ≡ Ok n
-unfolding table_meaning table_added
+unfolding table_meaning table_added sort_of
 table-read spelled told m t n adds =
-    rw (adds.keys, each-read point_of IsPoint (point-read spelled) (texts_at Points t) adds.points adds.read, (told adds.points).1 adds.makes, not_full (length m.config.tables) adds.room, adds.added) refl
+    rw (
+      adds.keys,
+      each-read point_of IsPoint (point-read spelled) (texts_at Points t) adds.points adds.read,
+      sort-read (value_at key.Sort t) adds.sort adds.named,
+      (told adds.points).1 adds.makes,
+      not_full (length m.config.tables) adds.room,
+      adds.added,
+    ) refl

@@ -8,12 +8,13 @@ use Rattle.std.proofs.lemmas.Bool.{and_parts, leb-true}
 use Rattle.std.proofs.lemmas.List.{length-append}
 use Rattle.motion_history.specs.declared.refused.TextFault.{TextFault}
 use Rattle.toml.specs.Data.{Data, array, as_table, boolean, datetime, float, integer, Members, string, table}
+use Rattle.machine_config.specs.Axes.{axis_of}
 use Rattle.machine_config.specs.Configured.{AddsItem, Configures, ItemsLead}
 use Rattle.machine_config.specs.Keys.{data_in, has_keys, has_known, is_form, is_given, top_keys, value_at}
 use Rattle.machine_config.specs.Machines.{IsMachine, IsUnderWay}
 use Rattle.machine_config.specs.Reading.{items_of, of_kind}
 use Rattle.machine_config.specs.Tops.{are_counted, count_at}
-use Rattle.machine_config.specs.Values.{tables_at, values_at, values_in}
+use Rattle.machine_config.specs.Values.{tables_at, text_at, values_at, values_in}
 use Rattle.machine_config.specs.declared.item.ItemKind.{ItemKind}
 use Rattle.machine_config.specs.declared.item.ItemKind.TheVariants as kind
 use Rattle.machine_config.specs.declared.key.Form.TheVariants as form
@@ -24,7 +25,7 @@ use Rattle.machine_config.specs.declared.machine.Machine.{Machine}
 -- ---- items keep the axes before them
 
 axis-adds : (m : Machine) (t : Members) (n : Machine) → AddsItem m kind.Axis t n → length n.config.axes ≡ length m.config.axes + 1
-axis-adds m t n adds = ap (λ (k : Machine). length k.config.axes) adds.added ∙ length-append m.config.axes (adds.axis ∷ [])
+axis-adds m t n adds = ap (λ (k : Machine). length k.config.axes) adds.added ∙ length-append m.config.axes (axis_of (text_at key.Name t) adds.parameters ∷ [])
 
 item-keeps : (m : Machine) (k : ItemKind) (t : Members) (n : Machine) → AddsItem m k t n → length m.config.axes ≤ length n.config.axes
 item-keeps m kind.Axis t n adds = let e = axis-adds m t n adds in omega (arith, e)

@@ -1,12 +1,14 @@
 -- The axes of a configuration. This project's profile.
-use Rattle.std.specs.Prelude.{ℕ, Result, Ok, [], ◌∷◌, ◌++◌}
+use Rattle.std.specs.Prelude.{ℕ, pos, Result, Ok, List, [], ◌∷◌, ◌++◌}
 use Rattle.plc_types.specs.declared.axis.AxisDef.{AxisDef}
 use Rattle.fixed_units.specs.PerCycle.{per_cycle_of, per_cycle_squared_of}
 use Rattle.plc_types.specs.declared.limits.Limits.{Limits}
 use Rattle.line_text.specs.Reading.{◌>>=◌}
 use Rattle.line_text.specs.Rules.{broken_unless}
 use Rattle.machine_words.specs.Rules.{broken_by}
+use Rattle.machine_words.specs.Units.{jerk_of}
 use Rattle.motion_history.specs.Faults.{axis_fault}
+use Rattle.motion_history.specs.declared.axes.AxisParameters.{AxisParameters}
 use Rattle.motion_history.specs.declared.drives.DriveDef.{DriveDef}
 use Rattle.toml.specs.Data.{Members}
 use Rattle.machine_config.specs.Cases.{is_apart}
@@ -15,8 +17,7 @@ use Rattle.machine_config.specs.Keys.{axis_keys, has_keys}
 use Rattle.machine_config.specs.Quantities.{quantity_at, quantity_or}
 use Rattle.machine_config.specs.Rules.{rule_of}
 use Rattle.machine_config.specs.Values.{flag_at, text_at}
-use Rattle.machine_config.specs.declared.axis.Placed.{Placed}
-use Rattle.machine_config.specs.declared.key.Key.TheVariants.{Amax, Dmax, Hi, Increment, Lo, Name, Ready, Start, Vmax}
+use Rattle.machine_config.specs.declared.key.Key.TheVariants.{Amax, Dmax, Hi, Increment, Jmax, Lo, Modulo, Name, Ready, Start, Vmax}
 use Rattle.machine_config.specs.declared.machine.Machine.{Machine}
 use Rattle.machine_config.specs.RuleNumbers.{wrong_key, wrong_name}
 
@@ -38,12 +39,35 @@ limits_of cycle_us table = do
     dmax = per_cycle_squared_of dmax cycle_us;
   })
 
--- the increment of an axis and its start, in internal units
-unfoldable pub placed_of : Members → Result Placed ℕ
-placed_of table = do
+-- what an axis is besides its name, in a cycle of this many microseconds: its limits, its increment
+-- and its start in internal units, and from a change of acceleration per second the change per
+-- cycle, none where it is left out
+unfoldable pub parameters_of : ℕ → Members → Result AxisParameters ℕ
+parameters_of cycle_us table = do
+  limits ← limits_of cycle_us table
   inc ← quantity_at Increment table
   start ← quantity_at Start table
-  Ok (record { inc = inc; start = start })
+  jerk ← quantity_or (pos 0) Jmax table
+  Ok (record {
+    limits = limits;
+    inc = inc;
+    start = start;
+    ready = flag_at Ready table;
+    jmax = jerk_of jerk cycle_us;
+    modulo = flag_at Modulo table;
+  })
+
+-- the axis of a name
+abbrev pub axis_of : List ℕ → AxisParameters → AxisDef
+axis_of name p = record {
+  name = name;
+  limits = p.limits;
+  inc = p.inc;
+  start = p.start;
+  ready = p.ready;
+  jmax = p.jmax;
+  modulo = p.modulo;
+}
 
 -- a machine with one axis more, and its drive
 abbrev pub with_axis : Machine → AxisDef → DriveDef → Machine
@@ -57,16 +81,9 @@ with_axis m axis drive = record m {
 -- hasn't too many faults (C6)
 unfoldable pub axis_meaning : Machine → Members → Result Machine ℕ
 axis_meaning m table = do
-  _ ← broken_unless (has_keys axis_keys table) wrong_key
-  limits ← limits_of m.cycle_us table
-  placed ← placed_of table
+  _ ← broken_unless (has_keys (axis_keys m.version) table) wrong_key
+  parameters ← parameters_of m.cycle_us table
   _ ← broken_unless (is_apart m (text_at Name table)) wrong_name
-  _ ← broken_by rule_of (axis_fault m.config (text_at Name table) limits placed.inc placed.start)
+  _ ← broken_by rule_of (axis_fault m.config (text_at Name table) parameters)
   drive ← drive_of table
-  Ok (with_axis m (record {
-    name = text_at Name table;
-    limits = limits;
-    inc = placed.inc;
-    start = placed.start;
-    ready = flag_at Ready table;
-  }) drive)
+  Ok (with_axis m (axis_of (text_at Name table) parameters) drive)

@@ -3,31 +3,36 @@
 use Rattle.std.specs.Prelude.{◌≡◌, ◌<◌, ◌≤◌, ℕ, ℤ, pos, ◌*ℤ◌, unsigned_abs, IsTrue, Option, Some, None, List, [], ◌∷◌, ◌++◌, length}
 use Rattle.std.specs.List.{after_first, before_first, list_any}
 use Rattle.std.specs.Str.{IsUtf8}
-use Rattle.plc_types.specs.declared.axis.AxisDef.{AxisDef}
 use Rattle.cam_table.specs.CamTable.{IsCamTable}
+use Rattle.cam_table.specs.declared.table.Sort.{Sort}
+use Rattle.cam_table.specs.declared.table.Sort.TheVariants.{Plain}
 use Rattle.fixed_units.specs.Numbers.{Spells}
 use Rattle.fixed_units.specs.PerCycle.{per_cycle_of, per_cycle_squared_of}
 use Rattle.plc_types.specs.declared.limits.Limits.{Limits}
 use Rattle.line_text.specs.Numbers.{is_colon}
 use Rattle.machine_words.specs.Names.{axis_at}
+use Rattle.machine_words.specs.Units.{jerk_of}
 use Rattle.motion_history.specs.Drives.{IsDrive}
 use Rattle.motion_history.specs.Faults.{axis_fault, group_fault}
 use Rattle.motion_history.specs.Members.{group_of}
+use Rattle.motion_history.specs.declared.axes.AxisParameters.{AxisParameters}
 use Rattle.motion_history.specs.declared.drives.DriveDef.{DriveDef}
 use Rattle.motion_history.specs.declared.refused.TraceVersion.{TraceVersion}
 use Rattle.motion_history.specs.declared.refused.TraceVersion.TheVariants as version
 use Rattle.toml.specs.Data.{Data, integer, string, Members}
 use Rattle.toml.specs.Parse.{parse_document}
-use Rattle.machine_config.specs.Axes.{with_axis}
+use Rattle.machine_config.specs.Axes.{axis_of, with_axis}
 use Rattle.machine_config.specs.Cases.{is_apart}
 use Rattle.machine_config.specs.Marks.{crowded_line}
 use Rattle.machine_config.specs.Keys.{axis_keys, group_keys, has_keys, table_keys, top_keys, value_at}
 use Rattle.machine_config.specs.Reading.{items_of}
+use Rattle.machine_config.specs.Tables.{sort_word}
 use Rattle.machine_config.specs.Tops.{are_counted, bare_setup}
-use Rattle.machine_config.specs.Values.{flag_at, integer_at, integer_in, integers_at, text_at, texts_at}
+use Rattle.machine_config.specs.Values.{flag_at, integer_at, integer_in, integers_at, text_at, text_in, texts_at}
 use Rattle.machine_config.specs.declared.item.ItemKind.{ItemKind}
 use Rattle.machine_config.specs.declared.item.ItemKind.TheVariants as kind
-use Rattle.machine_config.specs.declared.key.Key.TheVariants.{Amax, Axes, Cycles, CycleUs, Dmax, Entries, Faults, Hi, Increment, Lag, Lo, Name, Points, Ready, Start, Version, Vmax}
+use Rattle.machine_config.specs.declared.key.Key.TheVariants.{Amax, Axes, Cycles, CycleUs, Dmax, Entries, Faults, Hi, Increment, Jmax, Lag, Lo, Modulo, Name, Points, Ready, Start, Version, Vmax}
+use Rattle.machine_config.specs.declared.key.Key.TheVariants as key
 use Rattle.machine_config.specs.declared.machine.Machine.{Machine}
 
 -- a text spells this many internal units, at most 10^18
@@ -72,14 +77,16 @@ pub record GivesLimits (cycle_us : ℕ) (table : Members) (l : Limits) : Type 0 
   pub speeds_up : l.amax ≡ per_cycle_squared_of acceleration cycle_us
   pub slows_down : l.dmax ≡ per_cycle_squared_of deceleration cycle_us
 
--- a table gives this axis
-pub record GivesAxis (cycle_us : ℕ) (table : Members) (axis : AxisDef) : Type 0 where
-  pub keys : IsTrue (has_keys axis_keys table)
-  pub name : axis.name ≡ text_at Name table
-  pub limits : GivesLimits cycle_us table axis.limits
-  pub increment : IsQuantity (value_at Increment table) axis.inc
-  pub start : IsQuantity (value_at Start table) axis.start
-  pub ready : axis.ready ≡ flag_at Ready table
+-- a table gives an axis this besides its name. Without a change of acceleration it has none
+pub record GivesAxis (cycle_us : ℕ) (table : Members) (p : AxisParameters) : Type 0 where
+  pub jerk : ℤ
+  pub limits : GivesLimits cycle_us table p.limits
+  pub increment : IsQuantity (value_at Increment table) p.inc
+  pub start : IsQuantity (value_at Start table) p.start
+  pub ready : p.ready ≡ flag_at Ready table
+  pub jmax : IsQuantityOr (pos 0) (value_at Jmax table) jerk
+  pub changes : p.jmax ≡ jerk_of jerk cycle_us
+  pub modulo : p.modulo ≡ flag_at Modulo table
 
 -- an integer is a step in which a drive may have a fault
 pub record IsStep (z : ℤ) (step : ℕ) : Type 0 where
@@ -96,13 +103,14 @@ pub record GivesDrive (table : Members) (drive : DriveDef) : Type 0 where
 -- the table of an axis adds it to a machine, with its drive: the name of the axis
 -- is apart, and the axis is free and in its ranges
 pub record AddsAxis (m : Machine) (table : Members) (n : Machine) : Type 0 where
-  pub axis : AxisDef
+  pub parameters : AxisParameters
   pub drive : DriveDef
-  pub gives_axis : GivesAxis m.cycle_us table axis
+  pub keys : IsTrue (has_keys (axis_keys m.version) table)
+  pub gives_axis : GivesAxis m.cycle_us table parameters
   pub gives_drive : GivesDrive table drive
-  pub apart : IsTrue (is_apart m axis.name)
-  pub fits : axis_fault m.config axis.name axis.limits axis.inc axis.start ≡ None
-  pub added : n ≡ with_axis m axis drive
+  pub apart : IsTrue (is_apart m (text_at Name table))
+  pub fits : axis_fault m.config (text_at Name table) parameters ≡ None
+  pub added : n ≡ with_axis m (axis_of (text_at Name table) parameters) drive
 
 -- the table of a group adds it to a machine: its axes are there, and it is free and in its ranges
 pub record AddsGroup (m : Machine) (table : Members) (n : Machine) : Type 0 where
@@ -123,14 +131,25 @@ pub record IsPoint (text : List ℕ) (point : ℤ × ℤ) : Type 0 where
   pub x : IsDecimal (before_first is_colon text) point.0
   pub y : IsDecimal (after_first is_colon text) point.1
 
+-- the word of a sort is given, or none is and it is plain
+abbrev pub IsSort : Option Data → Sort → Type 0
+IsSort None sort = sort ≡ Plain
+IsSort (Some d) sort = text_in (Some d) ≡ sort_word sort
+
 -- the table of a cam table adds it to a machine: its points make one, and there is room for it
 pub record AddsTable (m : Machine) (table : Members) (n : Machine) : Type 0 where
   pub points : List (ℤ × ℤ)
-  pub keys : IsTrue (has_keys table_keys table)
+  pub sort : Sort
+  pub keys : IsTrue (has_keys (table_keys m.version) table)
   pub read : AreEach IsPoint (texts_at Points table) points
+  pub named : IsSort (value_at key.Sort table) sort
   pub makes : IsCamTable points
   pub room : length m.config.tables < 16
-  pub added : n ≡ record m { config = record m.config { tables = m.config.tables ++ points ∷ [] } }
+  pub added : n ≡ record m {
+    config = record m.config {
+      tables = m.config.tables ++ record { sort = sort; points = points } ∷ [];
+    };
+  }
 
 -- an item adds what it is
 abbrev pub AddsItem : Machine → ItemKind → Members → Machine → Type 0

@@ -1,10 +1,12 @@
 -- The keys of a configuration's tables, a row each, and what stands under them. This project's
 -- profile.
-use Rattle.std.specs.Prelude.{ℕ, Bool, true, false, not, ◌&&◌, ◌||◌, codes, is_some, Option, List, [], ◌∷◌}
+use Rattle.std.specs.Prelude.{ℕ, Bool, true, false, not, ◌&&◌, ◌||◌, codes, is_some, Option, List, [], ◌∷◌, ◌++◌}
 use Rattle.std.specs.List.{list_all, list_any}
 use Rattle.std.specs.Option.{option_map_or}
 use Rattle.std.specs.Str.{bytes_eq}
 use Rattle.toml.specs.Data.{Data, array, Items, no_items, item, Members, no_members, member, get_member, as_bool, as_integer, as_str, as_table}
+use Rattle.motion_history.specs.declared.refused.TraceVersion.{TraceVersion}
+use Rattle.motion_history.specs.declared.refused.TraceVersion.TheVariants.{One, Two, Three}
 use Rattle.machine_config.specs.declared.key.Form.{Form}
 use Rattle.machine_config.specs.declared.key.Form.TheVariants as form
 use Rattle.machine_config.specs.declared.key.Key.{Key}
@@ -17,19 +19,27 @@ abbrev pub top_keys : List Key
 top_keys =
     key.Version ∷ key.CycleUs ∷ key.Cycles ∷ key.Entries ∷ key.Axis ∷ key.Group ∷ key.Table ∷ []
 
--- the keys of an axis
-abbrev pub axis_keys : List Key
-axis_keys =
+-- the keys of an axis that each version has
+abbrev pub first_axis_keys : List Key
+first_axis_keys =
     key.Name ∷ key.Lo ∷ key.Hi ∷ key.Vmax ∷ key.Amax ∷ key.Dmax ∷ key.Increment ∷ key.Start ∷
     key.Ready ∷ key.Lag ∷ key.Faults ∷ []
+
+-- the keys of an axis in a text of a version
+abbrev pub axis_keys : TraceVersion → List Key
+axis_keys One = first_axis_keys
+axis_keys Two = first_axis_keys
+axis_keys Three = first_axis_keys ++ key.Jmax ∷ key.Modulo ∷ []
 
 -- the keys of a group
 abbrev pub group_keys : List Key
 group_keys = key.Name ∷ key.Axes ∷ []
 
--- the keys of a cam table
-abbrev pub table_keys : List Key
-table_keys = key.Points ∷ []
+-- the keys of a cam table in a text of a version
+abbrev pub table_keys : TraceVersion → List Key
+table_keys One = key.Points ∷ []
+table_keys Two = key.Points ∷ []
+table_keys Three = key.Points ∷ key.Sort ∷ []
 
 -- the word of each key
 unfoldable pub word_of : Key → List ℕ
@@ -51,8 +61,11 @@ word_of key.Start = codes "start"
 word_of key.Ready = codes "ready"
 word_of key.Lag = codes "lag"
 word_of key.Faults = codes "faults"
+word_of key.Jmax = codes "jmax"
+word_of key.Modulo = codes "modulo"
 word_of key.Axes = codes "axes"
 word_of key.Points = codes "points"
+word_of key.Sort = codes "sort"
 
 -- what stands under each key: one value, or a list of values
 abbrev pub form_of : Key → Form
@@ -74,8 +87,11 @@ form_of key.Start = form.One sort.Quantity
 form_of key.Ready = form.One sort.Flag
 form_of key.Lag = form.One sort.Integer
 form_of key.Faults = form.List sort.Integer
+form_of key.Jmax = form.One sort.Quantity
+form_of key.Modulo = form.One sort.Flag
 form_of key.Axes = form.List sort.Text
 form_of key.Points = form.List sort.Text
+form_of key.Sort = form.One sort.Text
 
 -- whether a key may not be left out
 abbrev pub is_needed : Key → Bool
@@ -86,6 +102,9 @@ is_needed key.Dmax = false
 is_needed key.Ready = false
 is_needed key.Lag = false
 is_needed key.Faults = false
+is_needed key.Jmax = false
+is_needed key.Modulo = false
+is_needed key.Sort = false
 is_needed _ = true
 
 -- whether a value is of this sort: a quantity is a text or an integer

@@ -9,7 +9,8 @@ ghost use Rattle.machine_config.specs.Groups as spec;
 ghost use Rattle.machine_config.specs.Machines.{IsUnderWay};
 
 use crate::case::is_apart;
-use crate::key::{GROUP_KEYS, Key, has_keys};
+use crate::key::{Key, has_keys};
+use crate::keys::GROUP_KEYS;
 use crate::machine::Machine;
 use crate::rule::{WRONG_KEY, WRONG_NAME, refusal_of};
 use crate::value::{text_at, texts_at};

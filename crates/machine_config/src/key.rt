@@ -29,8 +29,11 @@ pub enum Key {
     Ready,
     Lag,
     Faults,
+    Jmax,
+    Modulo,
     Axes,
     Points,
+    Sort,
 }
 
 /// The sorts of a single value.
@@ -50,38 +53,6 @@ pub enum Form {
     One(Sort),
     List(Sort),
 }
-
-/// The keys of the text itself.
-pub const TOP_KEYS: [Key; 7] = [
-    Key::Version,
-    Key::CycleUs,
-    Key::Cycles,
-    Key::Entries,
-    Key::Axis,
-    Key::Group,
-    Key::Table,
-];
-
-/// The keys of an axis.
-pub const AXIS_KEYS: [Key; 11] = [
-    Key::Name,
-    Key::Lo,
-    Key::Hi,
-    Key::Vmax,
-    Key::Amax,
-    Key::Dmax,
-    Key::Increment,
-    Key::Start,
-    Key::Ready,
-    Key::Lag,
-    Key::Faults,
-];
-
-/// The keys of a group.
-pub const GROUP_KEYS: [Key; 2] = [Key::Name, Key::Axes];
-
-/// The keys of a cam table.
-pub const TABLE_KEYS: [Key; 1] = [Key::Points];
 
 // The word of a key.
 #[tactic(auto, unfolding(crate::specs::Keys::word_of))]
@@ -107,8 +78,11 @@ fn word_of(key: Key) -> &'static str
         Key::Ready => "ready",
         Key::Lag => "lag",
         Key::Faults => "faults",
+        Key::Jmax => "jmax",
+        Key::Modulo => "modulo",
         Key::Axes => "axes",
         Key::Points => "points",
+        Key::Sort => "sort",
     }
 }
 
@@ -121,10 +95,16 @@ fn form_of(key: Key) -> Form
             Form::One(Sort::Integer)
         }
         Key::Axis | Key::Group | Key::Table => Form::List(Sort::Table),
-        Key::Name => Form::One(Sort::Text),
-        Key::Lo | Key::Hi | Key::Vmax | Key::Amax | Key::Dmax | Key::Increment | Key::Start =>
-            Form::One(Sort::Quantity),
-        Key::Ready => Form::One(Sort::Flag),
+        Key::Name | Key::Sort => Form::One(Sort::Text),
+        Key::Lo
+        | Key::Hi
+        | Key::Vmax
+        | Key::Amax
+        | Key::Dmax
+        | Key::Increment
+        | Key::Start
+        | Key::Jmax => Form::One(Sort::Quantity),
+        Key::Ready | Key::Modulo => Form::One(Sort::Flag),
         Key::Faults => Form::List(Sort::Integer),
         Key::Axes | Key::Points => Form::List(Sort::Text),
     }
@@ -136,7 +116,16 @@ fn is_needed(key: Key) -> bool
 {
     !matches!(
         key,
-        Key::Version | Key::Group | Key::Table | Key::Dmax | Key::Ready | Key::Lag | Key::Faults
+        Key::Version
+            | Key::Group
+            | Key::Table
+            | Key::Dmax
+            | Key::Ready
+            | Key::Lag
+            | Key::Faults
+            | Key::Jmax
+            | Key::Modulo
+            | Key::Sort
     )
 }
 

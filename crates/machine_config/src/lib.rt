@@ -9,6 +9,7 @@ mod drive;
 mod group;
 mod item;
 mod key;
+mod keys;
 mod machine;
 mod mark;
 mod quantity;

@@ -54,7 +54,9 @@ pub fn refusal_of(fault: ConfigFault) -> LineFault
             LineFault::Rule(WRONG_NAME)
         }
         ConfigFault::OutOfRange => LineFault::Rule(OUT_OF_RANGE),
-        ConfigFault::TooMany | ConfigFault::TooFew => LineFault::Rule(WRONG_COUNT),
+        ConfigFault::TooMany | ConfigFault::TooFew | ConfigFault::NotBuilt => {
+            LineFault::Rule(WRONG_COUNT)
+        }
         ConfigFault::Table(_) => LineFault::Rule(NO_TABLE),
         ConfigFault::OutOfMemory => LineFault::OutOfMemory,
     }

@@ -6,7 +6,8 @@ ghost use Rattle.toml.specs.View.{table_view};
 ghost use Rattle.machine_config.specs.Machines.{IsUnderWay};
 ghost use Rattle.machine_config.specs.Tops as spec;
 
-use crate::key::{Key, TOP_KEYS, has_keys, value_at};
+use crate::key::{Key, has_keys, value_at};
+use crate::keys::TOP_KEYS;
 use crate::machine::Machine;
 use crate::rule::{OUT_OF_RANGE, WRONG_COUNT, WRONG_KEY};
 use crate::value::{integer_at, values_at};

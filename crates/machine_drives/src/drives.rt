@@ -5,7 +5,7 @@ ghost use Rattle.std.specs.List.{All, list_all};
 ghost use Rattle.plc_types.specs.Counts.{IsCount};
 ghost use Rattle.drive_sim.specs.Sim.{DriveSim};
 ghost use Rattle.drive_sim.specs.Steps.{answer_of};
-ghost use Rattle.motion_history.specs.Ranges.{is_axis};
+ghost use Rattle.motion_history.specs.Built.{is_plain_axis};
 ghost use Rattle.machine_drives.specs.Drives as spec;
 ghost use Rattle.machine_drives.specs.Drives.{CanOpen};
 
@@ -19,7 +19,7 @@ use trace_text::DriveEndRow;
 /// The drive of an axis at opening.
 #[tactic(auto, unfolding(crate::specs::Drives::drive_at_opening))]
 pub fn open_drive(alloc: Global, axis: &AxisDef, def: &DriveDef) -> Result<Drive, OutOfMemory>
-    requires axis { IsTrue (is_axis axis.now) }
+    requires axis { IsTrue (is_plain_axis axis.now) }
     requires drive { CanOpen def.now }
     ensures { IfOk result (λ drive. drive ≡ spec.drive_at_opening axis.now def.now) }
 {
@@ -36,7 +36,7 @@ pub fn open_drives(
     axes: &[AxisDef],
     defs: &[DriveDef],
 ) -> Result<Vec<Drive>, OutOfMemory>
-    requires axes { IsTrue (list_all is_axis axes.now) }
+    requires axes { IsTrue (list_all is_plain_axis axes.now) }
     requires drives { All CanOpen defs.now }
     requires each { length defs.now ≡ length axes.now }
     ensures opened { IfOk result (λ drives.

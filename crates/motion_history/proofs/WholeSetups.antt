@@ -1,8 +1,8 @@
 -- A configuration that has its items and asks for nothing that isn't built is whole.
--- for: finish
+-- for: finish, crates above
 use Rattle.std.specs.Prelude.{◌≡◌, refl, ◌≤◌, Bool, true, false, ◌&&◌, not, if◌then◌else◌, nat_le, Option, Some, None, List, [], ◌∷◌, length}
 use Rattle.std.specs.List.{list_all}
-use Rattle.std.proofs.lemmas.Bool.{and_from, and_parts, leb-true}
+use Rattle.std.proofs.lemmas.Bool.{and_from, and_parts, le-leb, leb-true}
 use Rattle.motion_history.specs.Built.{is_built_axis, is_built_block, is_built_table, is_plain_axis}
 use Rattle.motion_history.specs.Faults.{asks_for_built, has_items, whole_fault}
 use Rattle.motion_history.specs.declared.fault.ConfigFault.{ConfigFault}
@@ -44,3 +44,17 @@ neither false b h = absurd (cc)
 
 pub unrefused : (s : Setup) → IsWithin s → whole_fault s ≡ None → IsSetup s
 unrefused s w h = let both = neither (has_items s) (asks_for_built s) h in whole_of s w both.0 both.1
+
+all_second : {X : Type 0} (p q : X → Bool) (xs : List X) → list_all (λ x. p x && q x) xs ≡ true → list_all q xs ≡ true
+all_second p q [] h = refl
+all_second p q (x ∷ xs) h =
+    let a = and_parts (p x && q x) (list_all (λ y. p y && q y) xs) h in
+    and_from (q x) (list_all q xs) (and_parts (p x) (q x) a.0).1 (all_second p q xs a.1)
+
+-- a configuration is not refused as a whole
+pub passes : (s : Setup) → IsSetup s → whole_fault s ≡ None
+passes s h =
+    let one = le-leb 1 (length s.axes) h.some_axis in
+    let two = le-leb 1 (length s.tasks) h.some_task in
+    let three = le-leb 1 (length s.blocks) h.some_block in
+    rw (one, two, three, all_second is_axis is_built_axis s.axes h.built.axes, h.built.tables, h.built.blocks) refl

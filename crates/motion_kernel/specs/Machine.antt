@@ -63,6 +63,8 @@ no_axis = axis_at_opening (record {
   inc = pos 0;
   start = pos 0;
   ready = false;
+  jmax = pos 0;
+  modulo = false;
 })
 
 abbrev pub no_group : PlacedGroup

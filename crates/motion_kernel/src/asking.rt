@@ -19,6 +19,18 @@ fn target_of(kind: BlockKind, inputs: &Inputs) -> Option<i64>
     }
 }
 
+// The table that a cam is given: none with a MasterOffset or a SlaveOffset, which a plain one doesn't
+// take.
+fn table_given(inputs: &Inputs) -> u16
+    ensures { result ≡ spec.table_given inputs.now }
+{
+    if inputs.positions[0] == 0 && inputs.positions[1] == 0 {
+        inputs.table
+    } else {
+        0
+    }
+}
+
 // Whom a command follows.
 fn follow_of(kind: BlockKind, inputs: &Inputs) -> Follow
     ensures { result ≡ spec.follow_of kind inputs.now }
@@ -31,7 +43,7 @@ fn follow_of(kind: BlockKind, inputs: &Inputs) -> Follow
         },
         Manner::Cams => Follow::Cam {
             master: inputs.master,
-            table: inputs.table,
+            table: table_given(inputs),
         },
         _ => Follow::None,
     }

@@ -1,6 +1,6 @@
 // Whom an axis follows.
 
-ghost use Rattle.std.specs.Prelude.{◌≡◌, slice_index_or, []};
+ghost use Rattle.std.specs.Prelude.{◌≡◌, slice_index_or};
 ghost use Rattle.axis_core.specs.Kept.{IsNear};
 ghost use Rattle.motion_kernel.specs.looks.Masters as spec;
 
@@ -47,7 +47,7 @@ fn is_past(points: &[(i64, i64)], place: i64) -> bool
 
 // The master of a cam, whose table has this place among some.
 fn cam_master(tables: &[CamTable], place: usize, before: i64, setpoint: i64) -> Master
-    ensures master { result ≡ spec.cam_master (slice_index_or tables.now place [])
+    ensures master { result ≡ spec.cam_master (slice_index_or tables.now place spec.no_cam).points
         (before, setpoint) }
     ensures near { IsNear result.cam }
 {

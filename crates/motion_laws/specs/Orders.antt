@@ -1,6 +1,6 @@
 -- What a command of an axis was asked for, as long as it waits or is active (PLCopen Motion Control
 -- Part 1).
-use Rattle.std.specs.Prelude.{◌≡◌, ℕ, Bool, true, false, not, nat_lt, Option, Some, List, length, slice_get}
+use Rattle.std.specs.Prelude.{◌≡◌, ℕ, Bool, true, false, nat_lt, Option, Some, List, length, slice_get}
 use Rattle.std.specs.List.{AllByRecursion}
 use Rattle.axis_core.specs.Demands.{asked_target}
 use Rattle.axis_core.specs.Profiles.{profile_of}
@@ -10,8 +10,8 @@ use Rattle.axis_core.specs.blocks.Cam.{is_no_table}
 use Rattle.axis_core.specs.blocks.Gear.{is_master}
 use Rattle.axis_core.specs.declared.axis.Axis.{Axis}
 pub use Rattle.buffer_modes.specs.Queue.{is_aborting}
-use Rattle.plc_types.specs.Inputs.{takes}
-use Rattle.plc_types.specs.declared.inputs.Input.TheVariants as input
+use Rattle.axis_core.specs.declared.profile.Manner.{Manner}
+use Rattle.axis_core.specs.declared.profile.Manner.TheVariants.{Gears, Cams}
 use Rattle.plc_types.specs.declared.kind.BlockKind.{BlockKind}
 use Rattle.command_pool.specs.declared.wanted.Follow.{Follow}
 use Rattle.command_pool.specs.declared.wanted.Follow.TheVariants as follow
@@ -20,12 +20,19 @@ use Rattle.fb_outputs.specs.Steps.{is_stop}
 use Rattle.motion_history.specs.Setup.{Setup}
 use Rattle.motion_history.specs.declared.config.BlockDef.{BlockDef}
 
--- whether whom a command follows goes with its kind: by a gear where it takes a ratio, by a cam
--- where it takes a table, and nobody where it takes no master. MC_GearIn and MC_CamIn
+-- whether whom a command follows goes with how it moves: a gear follows by its ratio, a cam by its
+-- table, and any other nobody. MC_GearIn and MC_CamIn
+abbrev pub follows_by : Manner → Follow → Bool
+follows_by Gears (follow.Gear master n d) = true
+follows_by Gears f = false
+follows_by Cams (follow.Cam master table) = true
+follows_by Cams f = false
+follows_by m follow.None = true
+follows_by m f = false
+
+-- the same of a kind
 abbrev pub is_follow_of : BlockKind → Follow → Bool
-is_follow_of k (follow.Gear master n d) = takes k input.Numerator
-is_follow_of k (follow.Cam master table) = takes k input.Table
-is_follow_of k follow.None = not (takes k input.Master)
+is_follow_of k f = follows_by (profile_of k).manner f
 
 -- whether there is an axis of its master's number
 abbrev pub has_master : ℕ → Follow → Bool

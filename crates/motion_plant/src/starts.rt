@@ -7,7 +7,7 @@ ghost use Rattle.kernel_turn.specs.PermitState.{PermitState};
 ghost use Rattle.kernel_turn.specs.Turns.{permit_after_split};
 ghost use Rattle.kernel_turn.specs.declared.TheConstants.{MOST_OUT};
 ghost use Rattle.motion_history.specs.Drives.{IsDrive};
-ghost use Rattle.motion_history.specs.Ranges.{is_axis};
+ghost use Rattle.motion_history.specs.Built.{is_plain_axis};
 ghost use Rattle.motion_history.specs.declared.sizes.TheConstants.{MOST_CYCLES, MOST_TASKS};
 ghost use Rattle.motion_plant.specs.Jobs.{IsSeat, line_job, seat_job};
 ghost use Rattle.motion_plant.specs.Lines.{IsNewLink};
@@ -68,7 +68,7 @@ pub fn start_drives<H: Host + Wait, G: Gate + Drop + Send + 'static>(
     defs: &[DriveDef],
     lines: &mut Vec<DriveLink>,
 ) -> Result<(), PlantFault>
-    requires axes { IsTrue (list_all is_axis axes.now) }
+    requires axes { IsTrue (list_all is_plain_axis axes.now) }
     requires drives { All IsDrive defs.now }
     requires none { lines.old.items ≡ [] }
     requires each { length defs.now ≡ length axes.now }

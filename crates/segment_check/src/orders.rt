@@ -17,18 +17,18 @@ ghost use Rattle.segment_check.specs.Flaws.{HaveOrders};
 ghost use Rattle.segment_check.specs.Queued.{AreQueued, Follows, HasOrders};
 
 use axis_core::{
-    Axis, BlockKind, BufferMode, Follow, Goal, Wanted, asked_target, may_wait, profile_for,
+    Axis, BlockKind, BufferMode, Follow, Goal, Manner, Wanted, asked_target, may_wait, profile_for,
 };
 use motion_history::Config;
 use motion_kernel::Start;
 
-// Whether whom a command follows goes with its kind.
+// Whether whom a command follows goes with how its kind moves.
 fn is_follow_of(kind: BlockKind, follow: &Follow) -> bool
     ensures { result ≡ orders.is_follow_of kind follow.now }
 {
-    match (kind, follow) {
-        (BlockKind::GearIn, Follow::Gear { .. }) | (BlockKind::CamIn, Follow::Cam { .. }) => true,
-        (BlockKind::GearIn | BlockKind::CamIn, _) => false,
+    match (profile_for(kind).manner, follow) {
+        (Manner::Gears, Follow::Gear { .. }) | (Manner::Cams, Follow::Cam { .. }) => true,
+        (Manner::Gears | Manner::Cams, _) => false,
         (_, Follow::None) => true,
         (_, Follow::Gear { .. } | Follow::Cam { .. }) => false,
     }

@@ -10,7 +10,7 @@ use Rattle.axis_core.specs.AxisKept as axis
 use Rattle.axis_core.specs.Kept.{IsNear}
 use Rattle.axis_core.specs.blocks.Path.{is_on_path}
 use Rattle.axis_core.specs.declared.look.AxisLook.{AxisLook}
-use Rattle.cam_table.specs.CamTable.{IsCamTable}
+use Rattle.cam_table.specs.CamTable.{Cam, IsCamTable}
 use Rattle.plc_types.specs.declared.drive.DriveIn.{DriveIn}
 use Rattle.command_pool.specs.declared.wanted.Follow.{Follow}
 use Rattle.command_pool.specs.declared.wanted.Follow.TheVariants as follow
@@ -26,7 +26,7 @@ use Rattle.motion_history.specs.Setup.{Setup, IsSetup}
 use Rattle.motion_kernel.specs.cycles.GroupSteps.{GroupsStepped}
 use Rattle.motion_kernel.specs.looks.AxisLooks.{Surroundings, axis_look, end_asked, place_asked, step_at}
 use Rattle.motion_kernel.specs.looks.DriveAnswers.{answer_at}
-use Rattle.motion_kernel.specs.looks.Masters.{cam_master, master_of, pair_at}
+use Rattle.motion_kernel.specs.looks.Masters.{cam_master, master_of, no_cam, pair_at}
 use Rattle.motion_kernel.specs.Machine.{Machine, axis_at, axis_core_at, group_at, group_core_at}
 use Rattle.motion_kernel.specs.kept.Machine.{IsMachineKept, IsMember, IsPlaced, limits_of}
 use Rattle.motion_kernel.specs.members.Members.{member_at, members_at, membership_of}
@@ -63,11 +63,11 @@ near_none : (z : ℤ) → IsNear (cam_position_of [] z)
 unfolding cam_position_of
 near_none z = near_zero
 
-near_cam : CamsInRange → (s : Setup) (i : ℕ) (pair : ℤ × ℤ) → IsSetup s → IsNear (cam_master (slice_index_or s.tables i []) pair).cam
+near_cam : CamsInRange → (s : Setup) (i : ℕ) (pair : ℤ × ℤ) → IsSetup s → IsNear (cam_master (slice_index_or s.tables i no_cam).points pair).cam
 unfolding cam_master
 near_cam cams s i pair setup = elim (cases_lt i (length s.tables)) [
-  | inl l ↦ near_table cams (slice_index_or s.tables i []) pair.1 (each_of IsCamTable s.tables i [] setup.within.tables l)
-  | inr out ↦ let none : slice_index_or s.tables i [] ≡ [] = not_there s.tables i [] out in rw none (near_none pair.1)
+  | inl l ↦ near_table cams (slice_index_or s.tables i no_cam).points pair.1 (each_of (λ (t : Cam). IsCamTable t.points) s.tables i no_cam setup.within.tables l)
+  | inr out ↦ let none : slice_index_or s.tables i no_cam ≡ no_cam = not_there s.tables i no_cam out in rw none (near_none pair.1)
 ]
 
 near_master : CamsInRange → (s : Setup) (f : Follow) (pairs : List (ℤ × ℤ)) → IsSetup s → IsNear (master_of f s.tables pairs).cam

@@ -25,7 +25,7 @@ use Rattle.motion_kernel.proofs.kept.GroupCalls.{group_command_kept}
 use Rattle.motion_kernel.proofs.kept.Laws.{AxesKeepDefinitions, AxesStayKept, AxesStayLed, ConfigurationsAreSound, GroupsComeAlive, GroupsKeepAxes, GroupsStayKept, HeldTakeNoCommand, MembersKeepLimits, PathsChange}
 use Rattle.motion_kernel.proofs.Lists.{get_is}
 use Rattle.motion_kernel.proofs.walk.ByTest.{one}
-use Rattle.motion_kernel.proofs.kept.MadeCommands.{axis_made, group_made}
+use Rattle.motion_kernel.proofs.kept.MadeCommands.{axis_made, group_made, kind_built}
 use Rattle.motion_kernel.proofs.kept.Detached.{disowned_kept}
 
 -- the laws on which a call rests
@@ -82,7 +82,7 @@ rising_kept laws s k b i m whole at call other h =
       | inr off ↦
           let there = axis_object laws.sound s k b sizes.setup call.there at off in
           let l : b.object < length free.axes = omega arith in
-          let one = axis_command_kept laws.axes laws.definitions laws.held laws.led s k b.object b.kind i free kept l (axis_made s k b i at call off other) in
+          let one = axis_command_kept laws.axes laws.definitions laws.held laws.led s k b.object b.kind i free kept l (axis_made s k b i at call (kind_built s k b sizes.setup at) off other) in
           subst (λ x. IsMachineKept s (if x then after_group_command s k b.object b.kind i free else after_axis_command s k b.object b.kind i free)) (sym off) one
     ]
 

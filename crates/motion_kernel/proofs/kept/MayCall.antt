@@ -21,7 +21,7 @@ use Rattle.motion_kernel.specs.kept.Ready.{MayAskAxis, MayAskGroup, MayCall}
 use Rattle.motion_kernel.proofs.kept.Calls.{CallLaws, axis_object, command_laws, group_object, object_of, power_acts}
 use Rattle.motion_kernel.proofs.kept.Events.{instance_kept}
 use Rattle.motion_kernel.proofs.kept.AxesLeave.{disabled_rests}
-use Rattle.motion_kernel.proofs.kept.MadeCommands.{axis_made, group_made}
+use Rattle.motion_kernel.proofs.kept.MadeCommands.{axis_made, group_made, kind_built}
 use Rattle.motion_kernel.proofs.kept.Detached.{disowned_kept}
 use Rattle.motion_kernel.proofs.kept.Ready.{may_look}
 
@@ -42,7 +42,7 @@ may_axis laws s k b i m at call e other h =
     let there : b.object < length m.axes = let o = axis_object laws.sound s k b h.sized.setup call.there at e in let l = h.sized.axes in omega arith in
     record {
       queue = queue_kept s m b.object h there;
-      made = axis_made s k b i at call e other;
+      made = axis_made s k b i at call (kind_built s k b h.sized.setup at) e other;
       jerk = (call.inputs b at).jerk.size;
     }
 

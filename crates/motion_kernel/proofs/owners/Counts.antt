@@ -32,6 +32,7 @@ use Rattle.group_core.specs.Refusals as group_refusals
 use Rattle.group_core.specs.blocks.Line.{line_tests}
 use Rattle.group_core.specs.declared.reason.Reason as group_reason
 use Rattle.group_core.specs.declared.reason.Reason.TheVariants as group_reasons
+use Rattle.motion_history.specs.Built.{is_built_kind}
 use Rattle.motion_kernel.specs.calls.Asking.{is_done_at_once}
 use Rattle.motion_kernel.specs.calls.Calls.{answered_instance}
 use Rattle.motion_kernel.specs.Machine.{instance_at, no_instance}
@@ -165,25 +166,27 @@ circle_refused q k e = no_first q line_tests
 
 -- the command that an instance brings to a group is what it shows
 brings_group : (x : BlockKind) (i : InstanceState) (k : ℕ) (w : Wanted) (c : groups.Core) →
-    w.owner ≡ Some k → acts_on_group x ≡ true →
+    w.owner ≡ Some k → acts_on_group x ≡ true → is_built_kind x ≡ true →
     (x ≡ kind.MoveCircularAbsolute → ⊥) →
     commands_shown (answered_instance x (Ok (group_calls.is_active_by x w c)) i).progress
     ≡ owner_count k (group_owners.brought_by x w)
-brings_group kind.GroupEnable i k w c e a n = sym (nobody k)
-brings_group kind.GroupDisable i k w c e a n = sym (nobody k)
-brings_group kind.GroupReset i k w c e a n = brings_one kind.GroupReset false i k w.owner e refl
-brings_group kind.GroupStop i k w c e a n = brings_one kind.GroupStop true i k w.owner e refl
-brings_group kind.GroupHalt i k w c e a n = brings_one kind.GroupHalt true i k w.owner e refl
-brings_group kind.MoveLinearAbsolute i k w c e a n =
+brings_group kind.GroupEnable i k w c e a b n = sym (nobody k)
+brings_group kind.GroupDisable i k w c e a b n = sym (nobody k)
+brings_group kind.GroupReset i k w c e a b n = brings_one kind.GroupReset false i k w.owner e refl
+brings_group kind.GroupStop i k w c e a b n = brings_one kind.GroupStop true i k w.owner e refl
+brings_group kind.GroupHalt i k w c e a b n = brings_one kind.GroupHalt true i k w.owner e refl
+brings_group kind.MoveLinearAbsolute i k w c e a b n =
     brings_one kind.MoveLinearAbsolute _ i k w.owner e refl
-brings_group kind.MoveCircularAbsolute i k w c e a n = absurd (n refl)
-brings_group _ i k w c e a n = absurd (cc)
+brings_group kind.MoveCircularAbsolute i k w c e a b n = absurd (n refl)
+brings_group kind.GroupSetOverride i k w c e a b n = absurd (cc)
+brings_group _ i k w c e a b n = absurd (cc)
 
 pub group_answer_shows : (q : group_refusals.Asked) (o : Option group_reason.Reason) →
     group_refusals.refusal_of q ≡ o → (i : InstanceState) (k : ℕ) (c : groups.Core) →
     q.wanted.owner ≡ Some k → acts_on_group q.wanted.kind ≡ true →
+    is_built_kind q.wanted.kind ≡ true →
     commands_shown (answered_instance q.wanted.kind (group_calls.answer_by o q.wanted c) i).progress
     ≡ owner_count k (group_owners.brought o q.wanted)
-group_answer_shows q None r i k c e a =
-    brings_group q.wanted.kind i k q.wanted c e a (λ circle. circle_refused q circle r)
-group_answer_shows q (Some x) r i k c e a = sym (nobody k)
+group_answer_shows q None r i k c e a b =
+    brings_group q.wanted.kind i k q.wanted c e a b (λ circle. circle_refused q circle r)
+group_answer_shows q (Some x) r i k c e a b = sym (nobody k)

@@ -27,6 +27,7 @@ use Rattle.motion_kernel.specs.looks.GroupLooks.{group_look}
 use Rattle.motion_kernel.specs.members.Members.{membership_of}
 use Rattle.motion_kernel.proofs.Sizes.{sized_without}
 use Rattle.motion_kernel.proofs.kept.Detached.{disowned_kept}
+use Rattle.motion_kernel.proofs.kept.MadeCommands.{kind_built}
 use Rattle.motion_kernel.proofs.kept.Events.{axis_written, group_written}
 use Rattle.motion_kernel.specs.owners.Objects.{a_group, an_axis, Object, has_commands_on, is_same, object_of}
 use Rattle.motion_kernel.proofs.owners.Counts.{answer_shows, group_answer_shows}
@@ -138,7 +139,7 @@ module _ (laws : WalkLaws) where
         call = laws.group.command_call w i.jerk members c;
         kinds = group_own s w i.jerk members c (λ j d owned at_j. asked_kind s k j b d at at_j owned);
         others = λ j e. laws.group.command_brings j w i.jerk members c ∙ other_brings_group j k (group_refusals.refusal_of q) w e refl;
-        brings = group_answer_shows q (group_refusals.refusal_of q) refl (instance_at led.instances k) k c refl on
+        brings = group_answer_shows q (group_refusals.refusal_of q) refl (instance_at led.instances k) k c refl on (kind_built s k b kept.sized.setup at)
             ∙ sym (laws.group.command_brings k w i.jerk members c);
         active = λ none. sym (group_own_active k w i.jerk members c (instance_at led.instances k) refl none)
             ∙ sym (ap (λ (e : groups.Core). active_of k (group.command_state_of e)) written);

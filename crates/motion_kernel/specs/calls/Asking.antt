@@ -1,5 +1,6 @@
 -- The command that a call asks for (PLCopen Motion Control Part 1 and Part 4).
-use Rattle.std.specs.Prelude.{ℕ, Bool, true, ℤ, pos, Option, Some, None, slice_index_or}
+use Rattle.std.specs.Prelude.{ℕ, Bool, true, ◌&&◌, if◌then◌else◌, ℤ, pos, Option, Some, None, slice_index_or}
+use Rattle.std.specs.Ordering.{int_eq}
 use Rattle.axis_core.specs.Kinds.{is_leaving}
 use Rattle.axis_core.specs.Profiles.{profile_of}
 use Rattle.axis_core.specs.declared.profile.Goal.{Goal}
@@ -23,10 +24,18 @@ target_in g i = None
 abbrev pub target_of : BlockKind → Inputs → Option ℤ
 target_of k i = target_in (profile_of k).goal i
 
+-- the table that a cam is given. A plain one takes no MasterOffset and no SlaveOffset: with one that
+-- isn't 0 there is none, so that the call is refused
+abbrev pub table_given : Inputs → ℕ
+table_given i =
+    if int_eq (slice_index_or i.positions 0 (pos 0)) (pos 0) &&
+    int_eq (slice_index_or i.positions 1 (pos 0)) (pos 0)
+    then i.table else 0
+
 -- whom a command follows: a gear its master by a ratio, a cam its master by a table
 abbrev pub follow_in : Manner → Inputs → Follow
 follow_in Gears i = follow.Gear i.master i.numerator i.denominator
-follow_in Cams i = follow.Cam i.master i.table
+follow_in Cams i = follow.Cam i.master (table_given i)
 follow_in m i = follow.None
 
 -- the same of a kind

@@ -34,7 +34,15 @@ AreWhole s = AllByRecursion (λ (d : GroupDef). length (members_of d) ≡ d.coun
 
 -- the limits of an axis of the configuration
 abbrev pub no_def : AxisDef
-no_def = record { name = []; limits = no_limits; inc = pos 0; start = pos 0; ready = false }
+no_def = record {
+  name = [];
+  limits = no_limits;
+  inc = pos 0;
+  start = pos 0;
+  ready = false;
+  jmax = pos 0;
+  modulo = false;
+}
 
 abbrev pub limits_of : Setup → ℕ → Limits
 limits_of s n = (slice_index_or s.axes n no_def).limits

@@ -1,5 +1,7 @@
 -- Whom an axis follows (MC_GearIn and MC_CamIn).
 use Rattle.std.specs.Prelude.{ℕ, ◌-◌, Bool, false, ℤ, pos, int_le, Option, Some, None, List, [], length, slice_get, slice_index_or}
+use Rattle.cam_table.specs.CamTable.{Cam}
+use Rattle.cam_table.specs.declared.table.Sort.TheVariants.{Plain}
 use Rattle.command_pool.specs.declared.wanted.Follow.{Follow}
 use Rattle.command_pool.specs.declared.wanted.Follow.TheVariants as follow
 use Rattle.command_pool.specs.declared.wanted.Wanted.{Wanted}
@@ -26,13 +28,17 @@ cam_master points pair = record {
   ended = is_past (last_point points) pair.1;
 }
 
+-- a table without points
+abbrev pub no_cam : Cam
+no_cam = record { sort = Plain; points = [] }
+
 -- whom a command follows; cam tables are numbered from 1
-abbrev pub master_of : Follow → List (List (ℤ × ℤ)) → List (ℤ × ℤ) → Master
+abbrev pub master_of : Follow → List Cam → List (ℤ × ℤ) → Master
 master_of follow.None tables pairs = record { pair = (pos 0, pos 0); cam = pos 0; ended = false }
 master_of (follow.Gear master n d) tables pairs =
     record { pair = pair_at pairs master; cam = pos 0; ended = false }
 master_of (follow.Cam master table) tables pairs =
-    cam_master (slice_index_or tables (table - 1) []) (pair_at pairs master)
+    cam_master (slice_index_or tables (table - 1) no_cam).points (pair_at pairs master)
 
 -- whom an axis follows: the master of its active command, if it has one
 abbrev pub follow_of : Option Wanted → Follow

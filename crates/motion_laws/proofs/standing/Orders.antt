@@ -34,8 +34,6 @@ use Rattle.buffer_modes.specs.Owners.{active_without}
 use Rattle.buffer_modes.specs.Queue.{Commands, admitted, behind, is_aborting, is_active_at_once}
 use Rattle.buffer_modes.specs.declared.reset.PendingReset.{PendingReset}
 use Rattle.plc_types.proofs.EveryKind.{every-kind, every-kind-that}
-use Rattle.plc_types.specs.Inputs.{takes}
-use Rattle.plc_types.specs.declared.inputs.Input.TheVariants as input
 use Rattle.plc_types.specs.declared.drive.DriveIn.{DriveIn}
 use Rattle.command_changes.proofs.axis.Cycles.{advance_stays}
 use Rattle.command_core.specs.CommandState.{CommandState}
@@ -88,18 +86,18 @@ unfolding holds
 other_by q follow.None is none h = refl
 other_by q (follow.Gear m n d) is none h =
     sym (ap (is_master q.number) is) ∙ not_held q none SelfMaster
-    (every-kind-that (λ k. takes k input.Numerator) (λ k. is_tested k SelfMaster) refl
+    (every-kind-that (λ k. is_follow_of k (follow.Gear m n d)) (λ k. is_tested k SelfMaster) refl
     q.wanted.kind h)
 other_by q (follow.Cam m t) is none h =
     sym (ap (is_master q.number) is) ∙ not_held q none SelfMaster
-    (every-kind-that (λ k. takes k input.Table) (λ k. is_tested k SelfMaster) refl q.wanted.kind h)
+    (every-kind-that (λ k. is_follow_of k (follow.Cam m t)) (λ k. is_tested k SelfMaster) refl q.wanted.kind h)
 
 table_by : (q : Asked) (f : Follow) → q.wanted.follow ≡ f → refusal_of q ≡ None →
     is_follow_of q.wanted.kind f ≡ true → is_no_table q.tables f ≡ false
 unfolding holds
 table_by q (follow.Cam m t) is none h =
     sym (ap (is_no_table q.tables) is) ∙ not_held q none NoTable
-    (every-kind-that (λ k. takes k input.Table) (λ k. is_tested k NoTable) refl q.wanted.kind h)
+    (every-kind-that (λ k. is_follow_of k (follow.Cam m t)) (λ k. is_tested k NoTable) refl q.wanted.kind h)
 table_by q _ is none h = refl
 
 -- the target is known in the call, unless the command is relative

@@ -211,6 +211,7 @@ next-by kind.GroupStop members w jerk c m n = (stop-from c.group.state (is_movin
 next-by kind.GroupHalt members w jerk c m n = (halt-from c.group.state (is_moving c.path) (not-false _ n.1.1.0), refl)
 next-by kind.MoveLinearAbsolute members w jerk c m n = line-by members w c (not-false _ n.1.1.1.1.1.1.0)
 next-by kind.MoveCircularAbsolute members w jerk c m n = refl
+next-by kind.GroupSetOverride members w jerk c m n = refl
 next-by _ members w jerk c m n = absurd (let made = m.kind in cc)
 
 next-asked : (o : Option Reason) (members : GroupLook) (w : Wanted) (jerk : ℤ) (c : Core) → IsMade c.group.axes w → refusal_of (asked_in c w jerk members) ≡ o →

@@ -4,7 +4,7 @@ use Rattle.std.specs.Str.{str_eq_ignore_ascii_case}
 use Rattle.std.proofs.lemmas.Iterator.{YieldsList-from_slice}
 use Rattle.std.proofs.lemmas.Iterator.Search.{find_from_yields_List}
 use Rattle.iec_interface.specs.Words.{direction_named, direction_text, without_mc}
-use Rattle.iec_interface.specs.declared.word.TheConstants.{DIRECTIONS}
+use Rattle.plc_types.specs.declared.kind_names.TheConstants.{DIRECTIONS}
 use Rattle.iec_interface.proofs.word.direction_named.Goals as goal
 
 pub returns : goal.returns
