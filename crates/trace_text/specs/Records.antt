@@ -1,5 +1,5 @@
 -- The records of a trace, field by field. This project's profile.
-use Rattle.std.specs.Prelude.{ℕ, ℤ, pos, ◌-◌, Bool, false, if◌then◌else◌, Option, Some, None, List, [], ◌∷◌, ◌++◌, codes, decimal, length, map, replicate, slice_get, take}
+use Rattle.std.specs.Prelude.{ℕ, ℤ, ◌-◌, Bool, if◌then◌else◌, Option, Some, None, List, [], ◌∷◌, ◌++◌, codes, decimal, length, map, replicate, slice_get, take}
 use Rattle.std.specs.Fmt.{signed_decimal}
 use Rattle.std.specs.List.{join_with_byte}
 use Rattle.std.specs.Option.{option_map}
@@ -8,21 +8,22 @@ use Rattle.plc_types.specs.declared.axis.AxisDef.{AxisDef}
 use Rattle.plc_types.specs.declared.axis.AxisRow.{AxisRow}
 use Rattle.plc_types.specs.Kinds.{acts_on_group}
 use Rattle.plc_types.specs.declared.kind.BlockKind.{BlockKind}
-use Rattle.plc_types.specs.declared.kind.BlockKind.TheVariants.{MoveAbsolute, GearIn, CamIn}
-use Rattle.plc_types.specs.declared.kind.BufferMode.{BufferMode}
+use Rattle.plc_types.specs.declared.kind.BlockKind.TheVariants.{GearIn, CamIn, GearInPos, SetOverride, GroupSetOverride}
 use Rattle.csv.specs.Writing.{row_text, default_writer}
-use Rattle.plc_types.specs.Inputs.{takes}
-use Rattle.plc_types.specs.KindNames.{kind_name, mode_name}
+use Rattle.plc_types.specs.Inputs.{takes, takes_in}
+use Rattle.plc_types.specs.KindNames.{direction_name, kind_name, mode_name}
 use Rattle.plc_types.specs.declared.inputs.Input.{Input}
-use Rattle.plc_types.specs.declared.inputs.Input.TheVariants.{Position, Velocity, Acceleration, Deceleration, Jerk, Mode}
+use Rattle.plc_types.specs.declared.inputs.Input.TheVariants.{Position, Velocity, Acceleration, Deceleration, Jerk, Mode, Direction}
 use Rattle.plc_types.specs.declared.inputs.Inputs.{Inputs}
 use Rattle.plc_types.specs.declared.outputs.Outputs.{Outputs}
 use Rattle.plc_types.specs.declared.group.GroupRow.{GroupRow}
-use Rattle.motion_history.specs.Calls.{axes_of}
+use Rattle.cam_table.specs.CamTable.{Cam}
+use Rattle.machine_words.specs.Inputs.{positions_for}
 use Rattle.motion_history.specs.Members.{members_of}
 pub use Rattle.motion_history.specs.NameTexts.{text_or_none}
 unfoldable pub use Rattle.motion_history.specs.NameTexts.{axis_name}
 use Rattle.motion_history.specs.Setup.{Setup}
+use Rattle.motion_history.specs.Versions.{number_of}
 use Rattle.motion_history.specs.declared.config.BlockDef.{BlockDef}
 use Rattle.motion_history.specs.declared.config.GroupDef.{GroupDef}
 use Rattle.motion_history.specs.declared.refused.TraceVersion.{TraceVersion}
@@ -30,7 +31,7 @@ use Rattle.motion_history.specs.declared.refused.TraceVersion.TheVariants.{One, 
 use Rattle.trace_columns.specs.Fields.{axis_state_text, drive_state_text, flag_text, group_state_text, hex_text, outputs_text}
 use Rattle.trace_text.specs.declared.command.Command.{Command}
 use Rattle.trace_text.specs.declared.drive_end.DriveEndRow.{DriveEndRow}
-use Rattle.trace_text.specs.Words.{command_text, shortest, version_text}
+use Rattle.trace_text.specs.Words.{command_text, sort_text, version_text}
 
 -- a record has twelve fields; those that it does not use are empty
 abbrev pub padded : List (List ℕ) → List (List ℕ)
@@ -70,15 +71,15 @@ braking_fields d =
     signed_decimal d.limits.vmax ∷ signed_decimal d.limits.amax ∷ signed_decimal d.limits.dmax ∷
     signed_decimal d.inc ∷ signed_decimal d.start ∷ flag_text d.ready ∷ []
 
--- version 1 has no field for the braking limit; version 3 has two more, for the jerk limit and for
--- whether the axis is modulo, and no axis has either
+-- version 1 has no field for the braking limit; version 3 has two more, for the limit of jerk and for
+-- whether the axis turns for ever
 abbrev pub axis_fields : TraceVersion → AxisDef → List (List ℕ)
 axis_fields One d =
     codes "axis" ∷ d.name ∷ signed_decimal d.limits.lo ∷ signed_decimal d.limits.hi ∷
     signed_decimal d.limits.vmax ∷ signed_decimal d.limits.amax ∷
     signed_decimal d.inc ∷ signed_decimal d.start ∷ flag_text d.ready ∷ []
 axis_fields Two d = braking_fields d
-axis_fields Three d = braking_fields d ++ (signed_decimal (pos 0) ∷ flag_text false ∷ [])
+axis_fields Three d = braking_fields d ++ (signed_decimal d.jmax ∷ flag_text d.modulo ∷ [])
 
 -- the names of the axes of a group, joined by semicolons
 unfoldable pub members_text : Setup → GroupDef → List ℕ
@@ -96,9 +97,9 @@ point_text p = signed_decimal p.0 ++ (58 ∷ signed_decimal p.1)
 unfoldable pub points_text : List (ℤ × ℤ) → List ℕ
 points_text points = join_with_byte 59 (map point_text points)
 
--- a cam table: its points
-abbrev pub table_fields : List (ℤ × ℤ) → List (List ℕ)
-table_fields points = codes "table" ∷ points_text points ∷ []
+-- a cam table: its points and its sort
+abbrev pub table_fields : Cam → List (List ℕ)
+table_fields t = codes "table" ∷ points_text t.points ∷ sort_text t.sort ∷ []
 
 -- a task: its name
 abbrev pub task_fields : List ℕ → List (List ℕ)
@@ -117,33 +118,40 @@ taken_text taken text = if taken then text else []
 abbrev pub number_text : BlockKind → Input → ℤ → List ℕ
 number_text k input z = taken_text (takes k input) (signed_decimal z)
 
--- the positions of a call, one for each axis of its block, joined by semicolons
-unfoldable pub positions_text : Setup → BlockDef → List ℤ → List ℕ
-positions_text s b positions =
-    taken_text (takes b.kind Position)
-    (join_with_byte 59 (map signed_decimal (take (axes_of s b) positions)))
+-- the positions of a call, as many as its block takes where the version has them, joined by
+-- semicolons
+unfoldable pub positions_text : TraceVersion → Setup → BlockDef → List ℤ → List ℕ
+positions_text v s b positions =
+    taken_text (takes_in (number_of v) b.kind Position)
+    (join_with_byte 59 (map signed_decimal (take (positions_for s b) positions)))
 
--- what an axis follows: its master with the gear's numerator and denominator, or with the number of
--- the cam table
+-- a numerator and a denominator, joined by a colon
+abbrev pub ratio_text : Inputs → List ℕ
+ratio_text i = signed_decimal i.numerator ++ (58 ∷ signed_decimal i.denominator)
+
+-- what an axis follows: its master with the gear's ratio or with the number of the cam table; and the
+-- ratio of an override
 unfoldable pub follow_text : Setup → BlockKind → Inputs → List ℕ
-follow_text s GearIn i =
-    axis_name s i.master ++
-    (58 ∷ (signed_decimal i.numerator ++ (58 ∷ signed_decimal i.denominator)))
+follow_text s GearIn i = axis_name s i.master ++ (58 ∷ ratio_text i)
+follow_text s GearInPos i = axis_name s i.master ++ (58 ∷ ratio_text i)
 follow_text s CamIn i = axis_name s i.master ++ (58 ∷ decimal i.table)
+follow_text s SetOverride i = ratio_text i
+follow_text s GroupSetOverride i = ratio_text i
 follow_text s _ i = []
 
--- the buffer mode of a kind; in version 3 an absolute move has its direction after a colon
-unfoldable pub mode_text : TraceVersion → BlockKind → BufferMode → List ℕ
-mode_text Three MoveAbsolute m = mode_name m ++ (58 ∷ shortest)
-mode_text v k m = mode_name m
+-- the buffer mode of a call, with its direction after a colon where the version has one
+unfoldable pub mode_text : TraceVersion → BlockKind → Inputs → List ℕ
+mode_text v k i =
+    if takes_in (number_of v) k Direction
+    then mode_name i.mode ++ (58 ∷ direction_name i.direction) else mode_name i.mode
 
 -- a call of a block: its inputs that are taken, its outputs and the ErrorID
 abbrev pub block_call_fields : TraceVersion → Setup → BlockDef → Inputs → Outputs → List (List ℕ)
 block_call_fields v s b i o =
-    codes "call" ∷ b.name ∷ flag_text i.execute ∷ positions_text s b i.positions ∷
+    codes "call" ∷ b.name ∷ flag_text i.execute ∷ positions_text v s b i.positions ∷
     number_text b.kind Velocity i.velocity ∷ number_text b.kind Acceleration i.acceleration ∷
     number_text b.kind Deceleration i.deceleration ∷ number_text b.kind Jerk i.jerk ∷
-    taken_text (takes b.kind Mode) (mode_text v b.kind i.mode) ∷ follow_text s b.kind i ∷
+    taken_text (takes b.kind Mode) (mode_text v b.kind i) ∷ follow_text s b.kind i ∷
     outputs_text o ∷ decimal o.error_id ∷ []
 
 -- a call of the block of a number. A history has none of a block that isn't there

@@ -1,6 +1,10 @@
 -- The records and the text of a trace. This project's profile.
-use Rattle.std.specs.Prelude.{◌≡◌, ℕ, suc, nat_le, Bool, true, if◌then◌else◌, List, [], ◌∷◌, ◌++◌, All, map}
+use Rattle.std.specs.Prelude.{◌≡◌, ℕ, suc, nat_le, pos, Bool, true, not, ◌&&◌, if◌then◌else◌, List, [], ◌∷◌, ◌++◌, All, map}
 use Rattle.std.specs.List.{flat_map, list_all}
+use Rattle.std.specs.Ordering.{int_eq}
+use Rattle.cam_table.specs.CamTable.{Cam}
+use Rattle.cam_table.specs.declared.table.Sort.{Sort}
+use Rattle.cam_table.specs.declared.table.Sort.TheVariants.{Plain}
 use Rattle.plc_types.specs.KindNames.{first_version}
 use Rattle.plc_types.specs.declared.axis.AxisDef.{AxisDef}
 use Rattle.motion_history.specs.Entries.{Entry, call, cycle, end_of}
@@ -64,16 +68,37 @@ has_kinds v blocks = list_all (has_kind v) blocks
 abbrev pub BrakeAlike : Setup → Type 0
 BrakeAlike s = All (λ (d : AxisDef). d.limits.dmax ≡ d.limits.amax) s.axes
 
+-- the first version that has what an axis asks for: a limit of jerk, and turning for ever, came with
+-- version 3
+abbrev pub axis_version : AxisDef → ℕ
+axis_version d = if int_eq d.jmax (pos 0) && not d.modulo then 1 else 3
+
+-- the first version that has a sort of cam tables
+abbrev pub sort_version : Sort → ℕ
+sort_version Plain = 1
+sort_version _ = 3
+
+-- whether a version has what each axis asks for, and the sort of each cam table
+unfoldable pub has_axes : TraceVersion → List AxisDef → Bool
+has_axes v axes = list_all (λ d. nat_le (axis_version d) (number_of v)) axes
+
+unfoldable pub has_sorts : TraceVersion → List Cam → Bool
+has_sorts v tables = list_all (λ (t : Cam). nat_le (sort_version t.sort) (number_of v)) tables
+
+-- whether a version has all that a machine asks for
+unfoldable pub has_machine : TraceVersion → Setup → Bool
+has_machine v s = has_axes v s.axes && has_sorts v s.tables && has_kinds v s.blocks
+
 -- a version can hold a machine: in version 1 each axis brakes as hard as it speeds up, and the
--- version has the kind of each block
+-- version has what the machine asks for
 pub record CanHold (v : TraceVersion) (s : Setup) : Type 0 where
   pub braking : v ≡ One → BrakeAlike s
-  pub kinds : has_kinds v s.blocks ≡ true
+  pub machine : has_machine v s ≡ true
 
 -- the version in which a machine's trace is written: this one, or version 3 where this one hasn't
--- the machine's kinds
+-- all that the machine asks for
 unfoldable pub trace_version : TraceVersion → Setup → TraceVersion
-trace_version v s = if has_kinds v s.blocks then v else Three
+trace_version v s = if has_machine v s then v else Three
 
 -- the version of the trace of a run
 abbrev pub run_version : Setup → TraceVersion

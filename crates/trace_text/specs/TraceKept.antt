@@ -38,7 +38,7 @@ pub record IsCycleRead (v : TraceVersion) (s : Setup) (c : CycleFound) : Type 0 
 -- an entry as it is read: a call of a block in the ranges of its columns, a cycle, or the end of a
 -- task that is there
 abbrev pub IsEntryRead : TraceVersion → Setup → FoundEntry → Type 0
-IsEntryRead v s (found.Call k inputs reply) = IsWritableCall s k inputs reply
+IsEntryRead v s (found.Call k inputs reply) = IsWritableCall v s k inputs reply
 IsEntryRead v s (found.Cycle c) = IsCycleRead v s c
 IsEntryRead v s (found.End task) = task < length s.tasks
 

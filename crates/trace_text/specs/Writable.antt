@@ -1,15 +1,21 @@
 -- What a trace asks of a history to hold it whole, and what is found of it in the trace. This
 -- project's profile.
-use Rattle.std.specs.Prelude.{◌≡◌, ◌^◌, ◌<◌, ◌≤◌, ℕ, ℤ, All, List, [], ◌∷◌, length, map}
+use Rattle.std.specs.Prelude.{◌≡◌, ◌^◌, ◌<◌, ◌≤◌, ℕ, ℤ, pos, false, Some, All, List, [], ◌∷◌, length, map, slice_get, slice_index_or}
 use Rattle.std.specs.List.{AllZip}
 use Rattle.plc_types.specs.declared.axis.AxisDef.{AxisDef}
 use Rattle.plc_types.specs.declared.axis.AxisRow.{AxisRow}
+use Rattle.plc_types.specs.Inputs.{takes_in}
+use Rattle.plc_types.specs.declared.inputs.Input.TheVariants.{Direction, Position}
 use Rattle.plc_types.specs.declared.inputs.Inputs.{Inputs}
+use Rattle.plc_types.specs.declared.kind.BlockKind.{BlockKind}
+use Rattle.plc_types.specs.declared.kind.Direction.TheVariants.{Shortest}
 use Rattle.plc_types.specs.declared.outputs.Outputs.{Outputs}
 use Rattle.plc_types.specs.declared.group.GroupRow.{GroupRow}
 use Rattle.motion_history.specs.Calls.{IsCall}
 use Rattle.motion_history.specs.Entries.{Entry, call, cycle, end_of}
 use Rattle.motion_history.specs.Setup.{IsSetup, Setup}
+use Rattle.motion_history.specs.Versions.{number_of}
+use Rattle.motion_history.specs.declared.config.BlockDef.{BlockDef}
 use Rattle.motion_history.specs.declared.config.GroupDef.{GroupDef}
 use Rattle.motion_history.specs.declared.refused.TraceVersion.{TraceVersion}
 use Rattle.motion_history.specs.declared.refused.TraceVersion.TheVariants.{One}
@@ -28,13 +34,28 @@ pub record IsMachine (s : Setup) : Type 0 where
   pub setup : IsSetup s
   pub arrays : All (λ (g : GroupDef). length g.axes ≡ MOST_MEMBERS) s.groups
 
--- a call is one of the machine, the array of its positions has its length, and the number of its
--- cam table and its ErrorID have 16 bits
-pub record IsWritableCall (s : Setup) (k : ℕ) (i : Inputs) (o : Outputs) : Type 0 where
+-- a call of a kind gives nothing that only a later version has
+pub record IsOfVersion (v : TraceVersion) (k : BlockKind) (i : Inputs) : Type 0 where
+  pub positions : takes_in (number_of v) k Position ≡ false → (n : ℕ) →
+      slice_index_or i.positions n (pos 0) ≡ pos 0
+  pub direction : takes_in (number_of v) k Direction ≡ false → i.direction ≡ Shortest
+
+-- a call is one of the machine and of the version, the array of its positions has its length, and
+-- the number of its cam table and its ErrorID have 16 bits
+pub record IsWritableCall (v : TraceVersion) (s : Setup) (k : ℕ) (i : Inputs) (o : Outputs)
+    : Type 0 where
   pub call : IsCall s k i
+  pub version : (b : BlockDef) → slice_get s.blocks k ≡ Some b → IsOfVersion v b.kind i
   pub positions : length i.positions ≡ MOST_MEMBERS
   pub table : i.table < 2 ^ 16
   pub error : o.error_id < 2 ^ 16
+
+-- an entry gives nothing that only a later version has
+abbrev pub IsEntryOfVersion : TraceVersion → Setup → Entry → Type 0
+IsEntryOfVersion v s (call k inputs reply) =
+    (b : BlockDef) → slice_get s.blocks k ≡ Some b → IsOfVersion v b.kind inputs
+IsEntryOfVersion v s (cycle n rows groups) = Unit {0}
+IsEntryOfVersion v s (end_of task) = Unit {0}
 
 -- a row of an axis is in the ranges of its columns, and so is the place that its drive reports
 pub record IsRowOf (d : AxisDef) (r : AxisRow) : Type 0 where
@@ -51,10 +72,10 @@ pub record IsWritableCycle (s : Setup) (n : ℕ) (rows : List AxisRow) (groups :
   pub group_rows : All IsGroupRow groups
 
 -- an entry is a call, a cycle or the end of a task of the machine
-abbrev pub IsWritable : Setup → Entry → Type 0
-IsWritable s (call k inputs reply) = IsWritableCall s k inputs reply
-IsWritable s (cycle n rows groups) = IsWritableCycle s n rows groups
-IsWritable s (end_of task) = task < length s.tasks
+abbrev pub IsWritable : TraceVersion → Setup → Entry → Type 0
+IsWritable v s (call k inputs reply) = IsWritableCall v s k inputs reply
+IsWritable v s (cycle n rows groups) = IsWritableCycle s n rows groups
+IsWritable v s (end_of task) = task < length s.tasks
 
 -- a history with what its drives took, which a trace of this version can hold: one item for each
 -- drive
@@ -62,7 +83,7 @@ pub record IsHeld (v : TraceVersion) (s : Setup) (es : List Entry) (ds : List Dr
     : Type 0 where
   pub machine : IsMachine s
   pub version : CanHold v s
-  pub entries : All (IsWritable s) es
+  pub entries : All (IsWritable v s) es
   pub as_many : length ds ≡ length s.axes
   pub drives : All IsDriveEnd ds
 

@@ -1,6 +1,6 @@
 -- The calls of blocks and the ends of tasks are read back.
 -- for: traces_are_read_back
-use Rattle.std.specs.Prelude.{◌≡◌, refl, ℕ, zero, suc, ◌+◌, ◌-◌, ◌^◌, ◌<◌, ◌≤◌, Bool, true, false, nat_lt, if◌then◌else◌, ℤ, pos, unsigned_abs, Some, Ok, List, [], ◌∷◌, ◌++◌, decimal, drop, length, map, replicate, slice_get, slice_index_or, take}
+use Rattle.std.specs.Prelude.{◌≡◌, refl, ℕ, zero, suc, ◌+◌, ◌-◌, ◌^◌, ◌<◌, ◌≤◌, Bool, true, false, nat_lt, if◌then◌else◌, ℤ, pos, unsigned_abs, Some, Ok, List, [], ◌∷◌, ◌++◌, decimal, drop, length, map, replicate, slice_get, slice_index_or, take, not, ◌||◌}
 use Rattle.std.specs.Fmt.{signed_decimal}
 use Rattle.std.specs.List.{AllByRecursion, join_with_byte, list_all}
 use Rattle.std.proofs.Common.{◌∙◌, sym, ap, arith, inl, inr}
@@ -9,40 +9,42 @@ use Rattle.std.proofs.lemmas.Bool.Decides.{Decides-eqb}
 use Rattle.std.proofs.lemmas.List.{length-drop, length-take-le, take-append-drop}
 use Rattle.plc_types.specs.Kinds.{acts_on_group}
 use Rattle.plc_types.specs.declared.kind.BlockKind.{BlockKind}
-use Rattle.plc_types.specs.declared.kind.BlockKind.TheVariants.{MoveAbsolute, GearIn, CamIn}
+use Rattle.plc_types.specs.declared.kind.BlockKind.TheVariants.{GearIn, CamIn, GearInPos, SetOverride, GroupSetOverride}
 use Rattle.plc_types.specs.declared.kind.BufferMode.{BufferMode}
 use Rattle.plc_types.specs.declared.kind.BufferMode.TheVariants.{Aborting}
-use Rattle.plc_types.specs.Inputs.{AreInputs, IsTaken, takes}
-use Rattle.plc_types.specs.KindNames.{mode_name, mode_named}
+use Rattle.plc_types.specs.declared.kind.Direction.{Direction}
+use Rattle.plc_types.specs.declared.kind.Direction.TheVariants.{Shortest}
+use Rattle.plc_types.specs.Inputs.{AreInputs, IsTaken, position_count, takes, takes_in}
+use Rattle.plc_types.specs.KindNames.{direction_name, mode_name}
+use Rattle.plc_types.proofs.EveryKind.{every-kind}
 use Rattle.plc_types.specs.Names.{is_name_byte}
+use Rattle.plc_types.specs.declared.inputs.Input.TheVariants as input
 use Rattle.plc_types.specs.declared.inputs.Input.TheVariants.{Position, Velocity, Acceleration, Deceleration, Jerk, Mode}
 use Rattle.plc_types.specs.declared.inputs.Inputs.{Inputs}
 use Rattle.plc_types.specs.declared.outputs.Outputs.{Outputs}
 use Rattle.line_text.specs.Reading.{each_of}
-use Rattle.line_text.specs.Texts.{says}
+use Rattle.machine_words.specs.Inputs.{positions_for}
 use Rattle.machine_words.specs.Names.{axis_at, axis_named, block_at, task_at}
 use Rattle.machine_words.specs.Positions.{no_positions, positions_from}
 use Rattle.motion_history.specs.Calls.{axes_of}
 use Rattle.motion_history.specs.Members.{IsGroup}
 use Rattle.motion_history.specs.Ranges.{is_block}
 use Rattle.motion_history.specs.Setup.{Setup}
+use Rattle.motion_history.specs.Versions.{number_of}
 use Rattle.motion_history.specs.declared.config.BlockDef.{BlockDef}
 use Rattle.motion_history.specs.declared.refused.TraceVersion.{TraceVersion}
-use Rattle.motion_history.specs.declared.refused.TraceVersion.TheVariants.{One, Two, Three}
 use Rattle.motion_history.specs.declared.sizes.TheConstants.{MOST_MEMBERS}
 use Rattle.motion_numbers.specs.declared.TheConstants.{MOST_NUMBER}
 use Rattle.trace_columns.specs.Fields.{flag_text, outputs_text}
 use Rattle.trace_text.specs.reading.Events.{call_by, call_meaning, end_meaning, reply_of}
-use Rattle.trace_text.specs.reading.Inputs.{cam_of, follow_of, gear_of, halves, input_of, inputs_of, joined_positions, last_of, mode_meaning, mode_of, no_master, positions_of, rates_of}
-use Rattle.trace_text.specs.reading.Rules.{are_empty, unused, value}
+use Rattle.trace_text.specs.reading.Inputs.{cam_of, directed_of, follow_of, gear_of, halves, input_of, inputs_of, joined_positions, last_of, mode_meaning, mode_of, no_master, positions_of, rates_of, ratio_of, undirected_of}
+use Rattle.trace_text.specs.reading.Rules.{are_empty, unused}
 use Rattle.trace_text.specs.reading.Items.{number, parts_of}
-use Rattle.trace_text.specs.Records.{axis_name, block_call_fields, call_fields, call_fields_of, end_fields, follow_text, mode_text, number_text, padded, positions_text, taken_text}
-use Rattle.trace_text.specs.Words.{shortest}
-use Rattle.trace_text.specs.Writable.{IsMachine, IsWritableCall}
+use Rattle.trace_text.specs.Records.{axis_name, block_call_fields, call_fields, call_fields_of, end_fields, follow_text, mode_text, number_text, padded, positions_text, ratio_text, taken_text}
+use Rattle.trace_text.specs.Writable.{IsMachine, IsOfVersion, IsWritableCall}
 use Rattle.trace_text.specs.declared.reading.inputs.Followed.{Followed}
 use Rattle.trace_text.specs.declared.found.FoundEntry.TheVariants as found
 use Rattle.trace_text.specs.reading.RuleNumbers.{no_value}
-use Rattle.line_text.proofs.Texts.{bytes-same}
 use Rattle.motion_history.proofs.DistinctLemmas.{each-from_list_all, each-weaker}
 use Rattle.trace_text.proofs.back.FieldsBack.{Given, number-back}
 use Rattle.trace_text.proofs.back.ItemsBack.{axis-at, axis-without, block-at, item-of, task-at, there-at}
@@ -122,12 +124,24 @@ acts-on s m k b at =
       | inr off ↦ record { some = rw off (omega arith); few = rw off (omega arith) }
     ]
 
-positions-back : Given → (s : Setup) → IsMachine s → (k : ℕ) (b : BlockDef) → slice_get s.blocks k ≡ Some b → (i : Inputs) → AreInputs b.kind (axes_of s b) i → length i.positions ≡ MOST_MEMBERS →
-    positions_of s b (positions_text s b i.positions) ≡ Ok i.positions
+-- so its call has 1 to 6 positions
+count-some : (k : BlockKind) (n : ℕ) → 1 ≤ n → 1 ≤ position_count k n
+count-some GearInPos n h = omega arith
+count-some CamIn n h = omega arith
+count-some _ n h = h
+
+count-few : (k : BlockKind) (n : ℕ) → n ≤ MOST_MEMBERS → position_count k n ≤ MOST_MEMBERS
+count-few GearInPos n h = omega arith
+count-few CamIn n h = omega arith
+count-few _ n h = h
+
+positions-back : Given → (v : TraceVersion) (s : Setup) → IsMachine s → (k : ℕ) (b : BlockDef) → slice_get s.blocks k ≡ Some b → (i : Inputs) → AreInputs b.kind (axes_of s b) i → IsOfVersion v b.kind i → length i.positions ≡ MOST_MEMBERS →
+    positions_of v s b (positions_text v s b i.positions) ≡ Ok i.positions
 unfolding positions_of positions_text
-positions-back g s m k b at i is long =
+positions-back g v s m k b at i is of long =
     let acts = acts-on s m k b at in
-    positions-by g (takes b.kind Position) (axes_of s b) i.positions acts.some acts.few long is.positions is.few_positions
+    positions-by g (takes_in (number_of v) b.kind Position) (positions_for s b) i.positions (count-some b.kind (axes_of s b) acts.some) (count-few b.kind (axes_of s b) acts.few) long
+    (λ n. record { left_out = λ none. of.positions none n; size = (is.positions n).size }) is.few_positions
 
 -- ---- numbers
 
@@ -156,26 +170,43 @@ unfolding mode_name
 mode-letters Aborting = refl
 mode-letters _ = refl
 
-directed-back : Given → (mode : BufferMode) → mode_meaning Three MoveAbsolute (mode_text Three MoveAbsolute mode) ≡ Ok mode
-unfolding mode_meaning mode_text halves says
-directed-back g mode = rw (halves-back (mode_name mode) shortest (bytes-without 58 refl (mode_name mode) (mode-letters mode)), bytes-same shortest, g.named.modes mode) refl
+directed-back : Given → (mode : BufferMode) (direction : Direction) → directed_of (mode_name mode ++ (58 ∷ direction_name direction)) ≡ Ok (mode, direction)
+unfolding directed_of halves
+directed-back g mode direction =
+    rw (halves-back (mode_name mode) (direction_name direction) (bytes-without 58 refl (mode_name mode) (mode-letters mode)), g.named.modes mode, g.named.directions direction) refl
 
--- in versions without directions
-named-back : Given → (mode : BufferMode) → value (mode_named (mode_name mode)) ≡ Ok mode
-named-back g mode = rw (g.named.modes mode) refl
+mode-back : Given → (directed : Bool) (mode : BufferMode) (direction : Direction) → (directed ≡ false → direction ≡ Shortest) →
+    (if directed then directed_of (if directed then mode_name mode ++ (58 ∷ direction_name direction) else mode_name mode)
+    else undirected_of (if directed then mode_name mode ++ (58 ∷ direction_name direction) else mode_name mode)) ≡ Ok (mode, direction)
+unfolding undirected_of
+mode-back g true mode direction is = directed-back g mode direction
+mode-back g false mode direction is = rw (g.named.modes mode) (ap (λ d. Ok (mode, d)) (sym (is refl)))
 
-mode-back : Given → (v : TraceVersion) (k : BlockKind) (mode : BufferMode) → mode_meaning v k (mode_text v k mode) ≡ Ok mode
-unfolding mode_meaning mode_text
-mode-back g One k mode = named-back g mode
-mode-back g Two k mode = named-back g mode
-mode-back g Three MoveAbsolute mode = directed-back g mode
-mode-back g Three _ mode = named-back g mode
-
-mode-by : Given → (v : TraceVersion) (k : BlockKind) (taken : Bool) (mode : BufferMode) → (taken ≡ false → mode ≡ Aborting) →
-    (if taken then mode_meaning v k (taken_text taken (mode_text v k mode)) else unused (taken_text taken (mode_text v k mode)) Aborting) ≡ Ok mode
+mode-by : Given → (taken directed : Bool) (mode : BufferMode) (direction : Direction) → (taken ≡ false → mode ≡ Aborting) → (taken ≡ false → direction ≡ Shortest) → (directed ≡ false → direction ≡ Shortest) →
+    (if taken then
+    (if directed then directed_of (taken_text taken (if directed then mode_name mode ++ (58 ∷ direction_name direction) else mode_name mode))
+    else undirected_of (taken_text taken (if directed then mode_name mode ++ (58 ∷ direction_name direction) else mode_name mode)))
+    else unused (taken_text taken (if directed then mode_name mode ++ (58 ∷ direction_name direction) else mode_name mode)) (Aborting, Shortest)) ≡ Ok (mode, direction)
 unfolding taken_text
-mode-by g v k true mode is = mode-back g v k mode
-mode-by g v k false mode is = ap Ok (sym (is refl))
+mode-by g true directed mode direction is none of = mode-back g directed mode direction of
+mode-by g false directed mode direction is none of =
+    let m = is refl in
+    let d = none refl in
+    λ i. Ok (sym m i, sym d i)
+
+-- a kind without a mode has no direction
+no-mode : (k : BlockKind) → takes k Mode ≡ false → takes k input.Direction ≡ false
+no-mode k none = first (takes k Mode) (takes k input.Direction) none (every-kind (λ x. takes x Mode || not (takes x input.Direction)) refl k)
+  where
+    first : (a b : Bool) → a ≡ false → (a || not b) ≡ true → b ≡ false
+    first a false e h = refl
+    first true true e h = absurd (cc e)
+    first false true e h = absurd (cc h)
+
+mode-told : Given → (v : TraceVersion) (k : BlockKind) (axes : ℕ) (i : Inputs) → AreInputs k axes i → IsOfVersion v k i → mode_of v k (taken_text (takes k Mode) (mode_text v k i)) ≡ Ok (i.mode, i.direction)
+unfolding mode_of mode_meaning mode_text
+mode-told g v k axes i is of =
+    mode-by g (takes k Mode) (takes_in (number_of v) k input.Direction) i.mode i.direction is.mode (λ none. is.direction (no-mode k none)) of.direction
 
 -- ---- what an axis follows
 
@@ -186,16 +217,28 @@ master-back : (s : Setup) → IsMachine s → (n : ℕ) → n < length s.axes �
 unfolding axis_at
 master-back s m n l = rw (axis-at s m n l) refl
 
-gear-back : Given → (s : Setup) → IsMachine s → (i : Inputs) → i.master < length s.axes → unsigned_abs i.numerator ≤ MOST_NUMBER → unsigned_abs i.denominator ≤ MOST_NUMBER → i.table ≡ 0 →
-    gear_of s (follow_text s GearIn i) ≡ Ok (followed i)
-unfolding gear_of follow_text halves
-gear-back g s m i l n d t =
+-- a ratio
+ratio-back : Given → (i : Inputs) → unsigned_abs i.numerator ≤ MOST_NUMBER → unsigned_abs i.denominator ≤ MOST_NUMBER →
+    ratio_of (ratio_text i) ≡ Ok (record { master = 0; numerator = i.numerator; denominator = i.denominator; table = 0 })
+unfolding ratio_of halves
+ratio-back g i n d =
     rw (
-      halves-back (axis_name s i.master) (signed_decimal i.numerator ++ (58 ∷ signed_decimal i.denominator)) (axis-without s m i.master l 58 refl),
-      master-back s m i.master l,
       halves-back (signed_decimal i.numerator) (signed_decimal i.denominator) (signed-without 58 i.numerator (omega arith) (omega (arith, n))),
       number-back g i.numerator n,
       number-back g i.denominator d,
+    ) refl
+
+override-back : Given → (i : Inputs) → i.master ≡ 0 → unsigned_abs i.numerator ≤ MOST_NUMBER → unsigned_abs i.denominator ≤ MOST_NUMBER → i.table ≡ 0 → ratio_of (ratio_text i) ≡ Ok (followed i)
+override-back g i l n d t = ratio-back g i n d ∙ (λ j. Ok (record { master = sym l j; numerator = i.numerator; denominator = i.denominator; table = sym t j }))
+
+gear-back : Given → (s : Setup) → IsMachine s → (i : Inputs) → i.master < length s.axes → unsigned_abs i.numerator ≤ MOST_NUMBER → unsigned_abs i.denominator ≤ MOST_NUMBER → i.table ≡ 0 →
+    gear_of s (axis_name s i.master ++ (58 ∷ ratio_text i)) ≡ Ok (followed i)
+unfolding gear_of halves
+gear-back g s m i l n d t =
+    rw (
+      halves-back (axis_name s i.master) (ratio_text i) (axis-without s m i.master l 58 refl),
+      master-back s m i.master l,
+      ratio-back g i n d,
     ) (λ j. Ok (record { master = i.master; numerator = i.numerator; denominator = i.denominator; table = sym t j }))
 
 cam-back : Given → (s : Setup) → IsMachine s → (i : Inputs) → i.master < length s.axes → i.table < 2 ^ 16 → i.numerator ≡ pos 1 → i.denominator ≡ pos 1 →
@@ -215,46 +258,50 @@ pub follow-back : Given → (s : Setup) → IsMachine s → (kind : BlockKind) (
     follow_of s kind (follow_text s kind i) ≡ Ok (followed i)
 unfolding follow_of follow_text
 follow-back g s m GearIn axes i is l t = gear-back g s m i l is.numerator.size is.denominator.size (is.table refl)
+follow-back g s m GearInPos axes i is l t = gear-back g s m i l is.numerator.size is.denominator.size (is.table refl)
+follow-back g s m SetOverride axes i is l t = override-back g i (is.master refl) is.numerator.size is.denominator.size (is.table refl)
+follow-back g s m GroupSetOverride axes i is l t = override-back g i (is.master refl) is.numerator.size is.denominator.size (is.table refl)
 follow-back g s m CamIn axes i is l t = cam-back g s m i l t (is.numerator.left_out refl) (is.denominator.left_out refl)
 follow-back g s m _ axes i is l t = ap Ok (none-back i (is.master refl) (is.numerator.left_out refl) (is.denominator.left_out refl) (is.table refl))
 
-last-back : Given → (v : TraceVersion) (s : Setup) → IsMachine s → (kind : BlockKind) (axes : ℕ) (i : Inputs) → AreInputs kind axes i → i.master < length s.axes → i.table < 2 ^ 16 →
-    last_of v s kind (taken_text (takes kind Mode) (mode_text v kind i.mode) ∷ follow_text s kind i ∷ []) ≡ Ok (record { mode = i.mode; followed = followed i })
-unfolding last_of mode_of
-last-back g v s m kind axes i is l t =
-    rw (mode-by g v kind (takes kind Mode) i.mode is.mode, follow-back g s m kind axes i is l t) refl
+last-back : Given → (v : TraceVersion) (s : Setup) → IsMachine s → (kind : BlockKind) (axes : ℕ) (i : Inputs) → AreInputs kind axes i → IsOfVersion v kind i → i.master < length s.axes → i.table < 2 ^ 16 →
+    last_of v s kind (taken_text (takes kind Mode) (mode_text v kind i) ∷ follow_text s kind i ∷ []) ≡ Ok (record { mode = i.mode; direction = i.direction; followed = followed i })
+unfolding last_of
+last-back g v s m kind axes i is of l t =
+    rw (mode-told g v kind axes i is of, follow-back g s m kind axes i is l t) refl
 
 -- ---- a whole call
 
-inputs-back : Given → (v : TraceVersion) (s : Setup) → IsMachine s → (k : ℕ) (b : BlockDef) → slice_get s.blocks k ≡ Some b → (i : Inputs) (o : Outputs) → IsWritableCall s k i o →
+inputs-back : Given → (v : TraceVersion) (s : Setup) → IsMachine s → (k : ℕ) (b : BlockDef) → slice_get s.blocks k ≡ Some b → (i : Inputs) (o : Outputs) → IsWritableCall v s k i o →
     inputs_of v s b (record {
       execute = flag_text i.execute;
-      positions = positions_text s b i.positions;
+      positions = positions_text v s b i.positions;
       rates = number_text b.kind Velocity i.velocity ∷ number_text b.kind Acceleration i.acceleration ∷ number_text b.kind Deceleration i.deceleration ∷ number_text b.kind Jerk i.jerk ∷ [];
-      last = taken_text (takes b.kind Mode) (mode_text v b.kind i.mode) ∷ follow_text s b.kind i ∷ [];
+      last = taken_text (takes b.kind Mode) (mode_text v b.kind i) ∷ follow_text s b.kind i ∷ [];
     }) ≡ Ok i
 unfolding inputs_of
 inputs-back g v s m k b at i o w =
     let is = w.call.inputs b at in
+    let of = w.version b at in
     rw (
       g.back.flags i.execute,
-      positions-back g s m k b at i is w.positions,
+      positions-back g v s m k b at i is of w.positions,
       rates-back g b.kind (axes_of s b) i is,
-      last-back g v s m b.kind (axes_of s b) i is w.call.master w.table,
+      last-back g v s m b.kind (axes_of s b) i is of w.call.master w.table,
     ) refl
 
 reply-back : Given → (o : Outputs) → o.error_id < 2 ^ 16 → reply_of (outputs_text o ∷ decimal o.error_id ∷ []) ≡ Ok o
 unfolding reply_of
 reply-back g o l = rw (g.back.unsigned 0 65535 o.error_id (omega (arith, l)) (omega arith) (omega (arith, l)), g.back.outputs o) refl
 
-pub call-there : Given → (v : TraceVersion) (s : Setup) → IsMachine s → (k : ℕ) (b : BlockDef) → slice_get s.blocks k ≡ Some b → (i : Inputs) (o : Outputs) → IsWritableCall s k i o →
+pub call-there : Given → (v : TraceVersion) (s : Setup) → IsMachine s → (k : ℕ) (b : BlockDef) → slice_get s.blocks k ≡ Some b → (i : Inputs) (o : Outputs) → IsWritableCall v s k i o →
     call_meaning v s (drop 1 (padded (block_call_fields v s b i o))) ≡ Ok (found.Call k i o)
 unfolding call_meaning call_by block_at
 call-there g v s m k b at i o w =
     rw (block-at s m k b at, at, inputs-back g v s m k b at i o w, reply-back g o w.error) refl
 
 -- a call of a block
-pub call-back : Given → (v : TraceVersion) (s : Setup) → IsMachine s → (k : ℕ) (i : Inputs) (o : Outputs) → IsWritableCall s k i o →
+pub call-back : Given → (v : TraceVersion) (s : Setup) → IsMachine s → (k : ℕ) (i : Inputs) (o : Outputs) → IsWritableCall v s k i o →
     call_meaning v s (drop 1 (padded (call_fields v s k i o))) ≡ Ok (found.Call k i o)
 unfolding call_fields_of
 call-back g v s m k i o w =

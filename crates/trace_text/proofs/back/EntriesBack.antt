@@ -1,10 +1,10 @@
 -- The entries of a trace and the records of its drives are read back.
 -- for: traces_are_read_back
-use Rattle.std.specs.Prelude.{◌≡◌, refl, ℕ, suc, ◌+◌, ◌^◌, ◌<◌, ◌≤◌, true, false, nat_le, ℤ, Some, Ok, List, [], ◌∷◌, ◌++◌, length, map, slice_get}
-use Rattle.std.specs.List.{AllByRecursion, AllZip, flat_map}
+use Rattle.std.specs.Prelude.{◌≡◌, refl, ℕ, suc, ◌+◌, ◌^◌, ◌<◌, ◌≤◌, Bool, true, false, ◌&&◌, nat_le, ℤ, Some, Ok, List, [], ◌∷◌, ◌++◌, length, map, slice_get}
+use Rattle.std.specs.List.{AllByRecursion, AllZip, flat_map, list_all}
 use Rattle.std.specs.Option.{option_to_list}
 use Rattle.std.proofs.Common.{◌∙◌, sym, ap, subst, arith, append_assoc}
-use Rattle.std.proofs.lemmas.Bool.{false_from_ne_true, le-leb, leb-true, lt-ltb}
+use Rattle.std.proofs.lemmas.Bool.{and_from, and_parts, false_from_ne_true, le-leb, leb-true, lt-ltb}
 use Rattle.std.proofs.lemmas.List.{append-nil, length-append, length-map}
 use Rattle.std.proofs.lemmas.List.Elements.{recursion_from_All}
 use Rattle.std.proofs.Math.Bool.{and-false}
@@ -14,6 +14,9 @@ use Rattle.plc_types.specs.declared.inputs.Inputs.{Inputs}
 use Rattle.plc_types.specs.declared.outputs.Outputs.{Outputs}
 use Rattle.plc_types.specs.declared.group.GroupRow.{GroupRow}
 use Rattle.motion_history.specs.Entries.{Entry, call, cycle, end_of}
+use Rattle.motion_history.specs.Built.{is_built_axis}
+use Rattle.motion_history.specs.Faults.{asks_for_built}
+use Rattle.motion_history.specs.Ranges.{is_axis}
 use Rattle.motion_history.specs.Setup.{Setup}
 use Rattle.motion_history.specs.declared.config.BlockDef.{BlockDef}
 use Rattle.motion_history.specs.declared.refused.TraceVersion.{TraceVersion}
@@ -47,23 +50,34 @@ IsEntryStage stage.Machine = Unit {0}
 IsEntryStage stage.Entries = Unit {0}
 IsEntryStage _ = ⊥
 
+-- what passes both of two tests passes the second
+second-all : {X : Type 0} (p q : X → Bool) (xs : List X) → list_all (λ x. p x && q x) xs ≡ true → list_all q xs ≡ true
+second-all p q [] h = refl
+second-all p q (x ∷ xs) h =
+    let parts = and_parts (p x && q x) (list_all (λ y. p y && q y) xs) h in
+    rw ((and_parts (p x) (q x) parts.0).1, second-all p q xs parts.1) refl
+
+built-is : (s : Setup) → IsMachine s → asks_for_built s ≡ true
+built-is s m =
+    and_from _ _ (and_from _ _ (second-all is_axis is_built_axis s.axes m.setup.built.axes) m.setup.built.tables) m.setup.built.blocks
+
 whole-is : (s : Setup) → IsMachine s → whole s ≡ Ok tt
 whole-is s m =
     let a = m.setup.some_axis in
     let b = m.setup.some_task in
     let c = m.setup.some_block in
-    rw (le-leb 1 (length s.axes) a, le-leb 1 (length s.tasks) b, le-leb 1 (length s.blocks) c) refl
+    rw (le-leb 1 (length s.axes) a, le-leb 1 (length s.tasks) b, le-leb 1 (length s.blocks) c, built-is s m) refl
 
 -- ---- calls and ends
 
-call-at : Given → (v : TraceVersion) (c : Command) (last : Kind) (s : Setup) → IsMachine s → (st : Stage) → IsEntryStage st → (f : List FoundEntry) (k : ℕ) (b : BlockDef) (i : Inputs) (o : Outputs) → slice_get s.blocks k ≡ Some b → IsWritableCall s k i o →
+call-at : Given → (v : TraceVersion) (c : Command) (last : Kind) (s : Setup) → IsMachine s → (st : Stage) → IsEntryStage st → (f : List FoundEntry) (k : ℕ) (b : BlockDef) (i : Inputs) (o : Outputs) → slice_get s.blocks k ≡ Some b → IsWritableCall v s k i o →
     meaning (standing v c last s st f []) (padded (block_call_fields v s b i o)) ≡ Ok (standing v c last s stage.Entries (f ++ found.Call k i o ∷ []) [])
 unfolding meaning twelve_meaning later_meaning is_here fields_meaning kind_of kind_text
 call-at g v c last s m stage.Machine is f k b i o at w = rw (call-there g v s m k b at i o w, whole-is s m) refl
 call-at g v c last s m stage.Entries is f k b i o at w = rw (call-there g v s m k b at i o w, whole-is s m) refl
 call-at g v c last s m _ is f k b i o at w = absurd is
 
-call-read : Given → (v : TraceVersion) (c : Command) (last : Kind) (s : Setup) → IsMachine s → (st : Stage) → IsEntryStage st → (f : List FoundEntry) (k : ℕ) (i : Inputs) (o : Outputs) → IsWritableCall s k i o →
+call-read : Given → (v : TraceVersion) (c : Command) (last : Kind) (s : Setup) → IsMachine s → (st : Stage) → IsEntryStage st → (f : List FoundEntry) (k : ℕ) (i : Inputs) (o : Outputs) → IsWritableCall v s k i o →
     meaning (standing v c last s st f []) (padded (call_fields v s k i o)) ≡ Ok (standing v c last s stage.Entries (f ++ found.Call k i o ∷ []) [])
 unfolding call_fields_of
 call-read g v c last s m st is f k i o w = let b = there-at s.blocks k w.call.there in rw b.at (call-at g v c last s m st is f k b.item i o b.at w)
@@ -206,7 +220,7 @@ cycle-lead g v c last s m st is f n rows groups w =
 
 -- ---- entries
 
-entry-lead : Given → (v : TraceVersion) (c : Command) (last : Kind) (s : Setup) → IsMachine s → (st : Stage) → IsEntryStage st → (f : List FoundEntry) (e : Entry) → IsWritable s e →
+entry-lead : Given → (v : TraceVersion) (c : Command) (last : Kind) (s : Setup) → IsMachine s → (st : Stage) → IsEntryStage st → (f : List FoundEntry) (e : Entry) → IsWritable v s e →
     Leads (entry_records v s e) (standing v c last s st f []) (standing v c last s stage.Entries (f ++ found_entry v s e ∷ []) [])
 unfolding entry_records
 entry-lead g v c last s m st is f (call k i o) w = leads-one (call_fields v s k i o) _ _ (call-read g v c last s m st is f k i o w)
@@ -219,7 +233,7 @@ pub record LeadsEntries (rs : List (List (List ℕ))) (s : SoFar) (at : Stage �
   pub is : IsEntryStage stage
   pub leads : Leads rs s (at stage)
 
-pub entries-lead : Given → (v : TraceVersion) (c : Command) (last : Kind) (s : Setup) → IsMachine s → (es : List Entry) → AllByRecursion (IsWritable s) es → (st : Stage) → IsEntryStage st → (before all : List FoundEntry) → all ≡ before ++ map (found_entry v s) es →
+pub entries-lead : Given → (v : TraceVersion) (c : Command) (last : Kind) (s : Setup) → IsMachine s → (es : List Entry) → AllByRecursion (IsWritable v s) es → (st : Stage) → IsEntryStage st → (before all : List FoundEntry) → all ≡ before ++ map (found_entry v s) es →
     LeadsEntries (flat_map (entry_records v s) es) (standing v c last s st before []) (λ t. standing v c last s t all [])
 entries-lead g v c last s m [] w st is before all e =
     let P : List FoundEntry → Type 0 = λ l. Leads [] (standing v c last s st before []) (standing v c last s st l []) in

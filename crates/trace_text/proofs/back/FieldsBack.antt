@@ -3,10 +3,12 @@
 use Rattle.std.specs.Prelude.{◌≡◌, refl, ℕ, ◌+◌, ◌-◌, ◌≤◌, ◌==◌, true, false, ◌↔◌, ℤ, pos, neg_ℤ, int_le, unsigned_abs, Some, Ok, List, [], ◌∷◌, decimal, IsTrue}
 use Rattle.std.specs.Fmt.{signed_decimal}
 use Rattle.std.specs.List.{AllByRecursion}
-use Rattle.std.proofs.Common.{arith}
+use Rattle.std.specs.Ordering.{int_eq}
+use Rattle.std.proofs.Common.{arith, inl, inr}
+use Rattle.std.proofs.lemmas.Bool.Decides.{Decides-int_eq}
 use Rattle.std.proofs.lemmas.Int.{ints}
 use Rattle.std.proofs.lemmas.List.Elements.{All-from_get_or, recursion_from_All}
-use Rattle.std.proofs.lemmas.Bool.{true_from_ne_false}
+use Rattle.std.proofs.lemmas.Bool.{and_parts, cases_Bool, true_from_ne_false}
 use Rattle.plc_types.specs.declared.axis.AxisDef.{AxisDef}
 use Rattle.cam_table.specs.CamTable.{IsCamTable, is_cam_table, size_of}
 use Rattle.trace_columns.specs.Records.{RecordsAreReadBack}
@@ -14,15 +16,19 @@ use Rattle.plc_types.specs.KindNames.{AreNamed}
 use Rattle.line_text.specs.Reading.{each_of}
 use Rattle.line_text.specs.Rules.{in_range}
 use Rattle.motion_history.specs.AxisRanges.{AreAxisRanges}
-use Rattle.motion_history.specs.Ranges.{is_axis}
+use Rattle.motion_history.specs.Built.{is_plain_axis}
+use Rattle.motion_history.specs.Ranges.{is_axis, is_axis_range, is_between, is_jmax}
+use Rattle.motion_history.specs.declared.axes.AxisParameters.{AxisParameters}
 use Rattle.motion_history.specs.declared.refused.TraceVersion.{TraceVersion}
-use Rattle.motion_numbers.specs.declared.TheConstants.{MOST_NUMBER, MOST_PLACE}
+use Rattle.motion_history.specs.declared.refused.TraceVersion.TheVariants.{Three}
+use Rattle.motion_numbers.specs.declared.TheConstants.{MOST_NUMBER, MOST_PLACE, MOST_STEP}
 use Rattle.trace_columns.specs.Columns.{size_limited_of, point_of}
 use Rattle.trace_columns.specs.Fields.{flag_text}
 use Rattle.trace_columns.specs.ReadBack.{AreReadBack}
-use Rattle.trace_text.specs.reading.Items.{axis_end_meaning, limits_of, number, parts_of, placed_of, point}
+use Rattle.trace_text.specs.reading.Items.{axis_end_of, limits_of, number, parameters_of, parts_of, point}
 use Rattle.trace_text.specs.Records.{point_text, points_text}
 use Rattle.trace_text.specs.reading.RuleNumbers.{item_refused}
+use Rattle.trace_text.specs.reading.Rules.{are_empty}
 use Rattle.motion_history.proofs.DistinctLemmas.{each-append, each-weaker}
 use Rattle.trace_text.proofs.back.PartsBack.{each-back, halves-back, texts-back}
 use Rattle.trace_text.proofs.back.Plain.{IsWithout, signed-without}
@@ -32,7 +38,7 @@ pub record Given : Type 0 where
   pub records : RecordsAreReadBack
   pub back : AreReadBack
   pub named : AreNamed
-  pub ranges : (d : AxisDef) → IsTrue (is_axis d) → AreAxisRanges d
+  pub ranges : (d : AxisDef) → IsTrue (is_plain_axis d) → AreAxisRanges d
   pub tables : (points : List (ℤ × ℤ)) → IsTrue (is_cam_table points) ↔ IsCamTable points
 
 -- a number that is an input or a limit
@@ -75,11 +81,32 @@ limits-back g d r =
       number-back g d.limits.dmax (omega (arith, ints, p, q, m)),
     ) refl
 
+-- what an axis is besides its name
+abbrev pub parameters : AxisDef → AxisParameters
+parameters d = record { limits = d.limits; inc = d.inc; start = d.start; ready = d.ready; jmax = d.jmax; modulo = d.modulo }
+
+-- a limit of jerk
+jmax-small : (z : ℤ) → is_jmax z ≡ true → unsigned_abs z ≤ MOST_NUMBER
+jmax-small z h = elim (cases_Bool (int_eq z (pos 0))) [
+  | inl none ↦ let e : z ≡ pos 0 = (Decides-int_eq z (pos 0)).0 none in omega (arith, ints, e)
+  | inr some ↦
+      let between : is_between (pos 2) z (pos MOST_STEP) ≡ true = rw some at h in
+      let parts = and_parts (int_le (pos 2) z) (int_le z (pos MOST_STEP)) between in
+      let low = parts.0 in
+      let high = parts.1 in
+      omega (arith, ints, low, high)
+]
+
+-- the last fields of an axis in version 3
+pub end-back : Given → (d : AxisDef) → is_axis d ≡ true → axis_end_of Three (signed_decimal d.jmax ∷ flag_text d.modulo ∷ []) ≡ Ok (d.jmax, d.modulo)
+unfolding axis_end_of are_empty is_axis_range
+end-back g d is = rw (number-back g d.jmax (jmax-small d.jmax (and_parts (is_jmax d.jmax) _ is).0), g.back.flags d.modulo) refl
+
 -- the increment of an axis, its start and whether it is ready, and the last fields after them
-pub placed-back : Given → (v : TraceVersion) (d : AxisDef) → AreAxisRanges d → (behind : List (List ℕ)) → axis_end_meaning v behind ≡ Ok tt →
-    placed_of v (signed_decimal d.inc ∷ signed_decimal d.start ∷ flag_text d.ready ∷ behind) ≡ Ok (record { inc = d.inc; start = d.start; ready = d.ready })
-unfolding placed_of
-placed-back g v d r behind none =
+pub parameters-back : Given → (v : TraceVersion) (d : AxisDef) → AreAxisRanges d → (behind : List (List ℕ)) → axis_end_of v behind ≡ Ok (d.jmax, d.modulo) →
+    parameters_of v d.limits (signed_decimal d.inc ∷ signed_decimal d.start ∷ flag_text d.ready ∷ behind) ≡ Ok (parameters d)
+unfolding parameters_of
+parameters-back g v d r behind last =
     let a = r.least in
     let b = r.most in
     let l = r.limits.lo_in_range in
@@ -90,7 +117,7 @@ placed-back g v d r behind none =
       number-back g d.inc (omega (arith, ints, a, b)),
       number-back g d.start (omega (arith, ints, l, t, x, y)),
       g.back.flags d.ready,
-      none,
+      last,
     ) refl
 
 -- ---- points of cam tables

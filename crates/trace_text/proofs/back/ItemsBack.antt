@@ -1,24 +1,31 @@
 -- The items of a machine are read back, each after those before it.
 -- for: traces_are_read_back
-use Rattle.std.specs.Prelude.{◌≡◌, refl, ℕ, zero, suc, ◌+◌, ◌-◌, ◌<◌, ◌≤◌, true, false, if◌then◌else◌, nat_eq, nat_le, nat_lt, ℤ, pos, Some, None, Ok, List, [], ◌∷◌, ◌++◌, drop, length, map, replicate, slice_get}
+use Rattle.std.specs.Prelude.{◌≡◌, refl, ℕ, zero, suc, ◌+◌, ◌-◌, ◌<◌, ◌≤◌, Bool, true, false, ◌&&◌, not, if◌then◌else◌, nat_eq, nat_le, nat_lt, ℤ, pos, Some, None, Ok, List, [], ◌∷◌, ◌++◌, drop, length, map, replicate, slice_get}
 use Rattle.std.specs.List.{AllByRecursion, IsDistinct, flat_map, position}
 use Rattle.std.specs.Fmt.{signed_decimal}
 use Rattle.std.specs.Str.{bytes_eq}
-use Rattle.std.proofs.Common.{◌∙◌, sym, ap, subst, arith, lit≤, append_assoc, inl, inr}
-use Rattle.std.proofs.lemmas.Bool.{and_parts, cases_Bool, false_from_ne_true, leb-true, lt-ltb, ltb-true}
+use Rattle.std.proofs.Common.{◌∙◌, sym, ap, subst, arith, append_assoc, inl, inr}
+use Rattle.std.proofs.lemmas.Bool.{and_parts, cases_Bool, false_from_ne_true, leb-true, ltb-true}
 use Rattle.std.proofs.lemmas.List.{append-nil, length-append, length-take-le, take-append-drop}
 use Rattle.std.proofs.lemmas.List.Elements.{recursion_from_All}
 use Rattle.std.proofs.Math.Bool.{or-true}
 use Rattle.plc_types.specs.Names.{is_name, is_name_byte}
 use Rattle.plc_types.specs.declared.axis.AxisDef.{AxisDef}
-use Rattle.cam_table.specs.CamTable.{IsCamTable}
+use Rattle.cam_table.specs.CamTable.{Cam, IsCamTable}
+use Rattle.cam_table.specs.declared.table.Sort.{Sort}
+use Rattle.cam_table.specs.declared.table.Sort.TheVariants.{Plain, Once, Periodic}
+use Rattle.line_text.specs.Texts.{says}
+use Rattle.std.specs.Ordering.{int_eq}
+use Rattle.std.proofs.lemmas.Bool.Decides.{Decides-int_eq}
+use Rattle.trace_text.specs.Words.{sort_text}
 use Rattle.plc_types.specs.Kinds.{acts_on_group}
 use Rattle.plc_types.specs.KindNames.{first_version}
 use Rattle.line_text.specs.Reading.{each_of}
 use Rattle.machine_words.specs.Names.{axis_at, axis_named, group_at, object_at, task_at}
 use Rattle.machine_words.specs.Tables.{table_added}
 use Rattle.motion_history.specs.AxisRanges.{AreAxisRanges}
-use Rattle.motion_history.specs.Faults.{are_free, axis_fault, block_fault, group_fault, is_used, name_fault, task_fault}
+use Rattle.motion_history.specs.Faults.{are_free, axis_fault, block_fault, group_fault, is_used, may_join, name_fault, task_fault}
+use Rattle.motion_history.specs.Built.{is_plain_axis}
 use Rattle.motion_history.specs.Members.{IsGroup, group_of, members_of}
 use Rattle.motion_history.specs.Ranges.{has_block, is_axis, is_block}
 use Rattle.motion_history.specs.Setup.{Setup, names_of}
@@ -29,14 +36,14 @@ use Rattle.motion_history.specs.declared.refused.TraceVersion.{TraceVersion}
 use Rattle.motion_history.specs.declared.refused.TraceVersion.TheVariants.{One, Two, Three}
 use Rattle.motion_history.specs.declared.sizes.TheConstants.{MOST_AXES, MOST_BLOCKS, MOST_GROUPS, MOST_MEMBERS, MOST_TABLES, MOST_TASKS}
 use Rattle.trace_columns.specs.Fields.{flag_text}
-use Rattle.trace_text.specs.reading.Items.{axis_added, axis_end_meaning, axis_meaning, block_meaning, group_meaning, is_object, kind_meaning, parts_of, table_meaning, task_meaning}
+use Rattle.trace_text.specs.reading.Items.{axis_added, axis_end_of, axis_meaning, block_meaning, group_meaning, is_object, kind_meaning, parts_of, sort_meaning, sort_of, table_meaning, task_meaning}
 use Rattle.trace_text.specs.Records.{axis_fields, axis_name, block_fields, group_fields, group_name, members_text, object_name, padded, table_fields, task_fields, task_name}
 use Rattle.trace_text.specs.reading.Rules.{are_empty}
-use Rattle.trace_text.specs.Trace.{CanHold, has_kinds}
+use Rattle.trace_text.specs.Trace.{CanHold, axis_version, has_axes, has_kinds, has_machine, has_sorts, sort_version}
 use Rattle.trace_text.specs.Writable.{IsMachine}
 use Rattle.trace_text.specs.reading.RuleNumbers.{no_value}
 use Rattle.motion_history.proofs.DistinctLemmas.{each-append, each-from_list_all, each-weaker}
-use Rattle.trace_text.proofs.back.FieldsBack.{Given, limits-back, number-back, placed-back, points-back}
+use Rattle.trace_text.proofs.back.FieldsBack.{Given, end-back, limits-back, parameters, parameters-back, points-back}
 use Rattle.trace_text.proofs.back.NamesBack.{any-none, each-at, each-left, each-right, each-unmap, found-at, free-members, names-differ}
 use Rattle.trace_text.proofs.back.PartsBack.{each-back, stands-at, texts-back}
 use Rattle.trace_text.proofs.back.Plain.{IsWithout, name-without}
@@ -48,7 +55,7 @@ at_axes s done = record { axes = done; groups = []; tables = []; tasks = []; blo
 abbrev pub at_groups : Setup → List GroupDef → Setup
 at_groups s done = record { axes = s.axes; groups = done; tables = []; tasks = []; blocks = []; cycles = s.cycles; entries = s.entries }
 
-abbrev pub at_tables : Setup → List (List (ℤ × ℤ)) → Setup
+abbrev pub at_tables : Setup → List Cam → Setup
 at_tables s done = record { axes = s.axes; groups = s.groups; tables = done; tasks = []; blocks = []; cycles = s.cycles; entries = s.entries }
 
 abbrev pub at_tasks : Setup → List (List ℕ) → Setup
@@ -149,7 +156,7 @@ block-new s m before d behind e =
 -- ---- axes
 
 axis-free : (s : Setup) → IsMachine s → (before : List AxisDef) (d : AxisDef) (behind : List AxisDef) → s.axes ≡ before ++ d ∷ behind →
-    axis_fault (at_axes s before) d.name d.limits d.inc d.start ≡ None
+    axis_fault (at_axes s before) d.name (parameters d) ≡ None
 unfolding axis_fault
 axis-free s m before d behind e =
     rw (
@@ -159,35 +166,67 @@ axis-free s m before d behind e =
     ) refl
 
 axis-adds : Given → (v : TraceVersion) (s : Setup) → IsMachine s → (before : List AxisDef) (d : AxisDef) (behind : List AxisDef) → s.axes ≡ before ++ d ∷ behind →
-    (unused : List (List ℕ)) → axis_end_meaning v unused ≡ Ok tt →
+    (unused : List (List ℕ)) → axis_end_of v unused ≡ Ok (d.jmax, d.modulo) →
     axis_added v (at_axes s before) d.name
     (signed_decimal d.limits.lo ∷ signed_decimal d.limits.hi ∷ signed_decimal d.limits.vmax ∷ signed_decimal d.limits.amax ∷ signed_decimal d.limits.dmax ∷ [])
     (signed_decimal d.inc ∷ signed_decimal d.start ∷ flag_text d.ready ∷ unused) ≡
     Ok (at_axes s (before ++ d ∷ []))
 unfolding axis_added
-axis-adds g v s m before d behind e unused none =
-    let is : is_axis d ≡ true = item-of (λ a. is_axis a ≡ true) s.axes before d behind e (each-from_list_all is_axis s.axes m.setup.within.axes) in
+axis-adds g v s m before d behind e unused last =
+    let is : is_plain_axis d ≡ true = item-of (λ a. is_plain_axis a ≡ true) s.axes before d behind e (each-from_list_all is_plain_axis s.axes m.setup.built.axes) in
     let r : AreAxisRanges d = g.ranges d is in
     rw (
       item-of _ s.axes before d behind e (axes-named s m),
       limits-back g d r,
-      placed-back g v d r unused none,
+      parameters-back g v d r unused last,
       axis-free s m before d behind e,
     ) refl
 
+-- an axis in the versions that have no fields for a limit of jerk and for turning for ever
+plain-version : (v : TraceVersion) (b : Bool) → (v ≡ Three → ⊥) → nat_le (if b then 1 else 3) (number_of v) ≡ true → b ≡ true
+plain-version v true n h = refl
+plain-version One false n h = absurd (cc h)
+plain-version Two false n h = absurd (cc h)
+plain-version Three false n h = absurd (n refl)
+
+turns-not : (b : Bool) → not b ≡ true → b ≡ false
+turns-not false h = refl
+turns-not true h = absurd (cc h)
+
+record IsPlain (d : AxisDef) : Type 0 where
+  jmax : d.jmax ≡ pos 0
+  modulo : d.modulo ≡ false
+
+plain-axis : (v : TraceVersion) (s : Setup) → (v ≡ Three → ⊥) → CanHold v s → (before : List AxisDef) (d : AxisDef) (behind : List AxisDef) → s.axes ≡ before ++ d ∷ behind → IsPlain d
+unfolding has_machine has_axes
+plain-axis v s other can before d behind e =
+    let all = (and_parts (has_axes v s.axes) (has_sorts v s.tables) (and_parts (has_axes v s.axes && has_sorts v s.tables) (has_kinds v s.blocks) can.machine).0).0 in
+    let here : nat_le (axis_version d) (number_of v) ≡ true =
+    item-of (λ a. nat_le (axis_version a) (number_of v) ≡ true) s.axes before d behind e (each-from_list_all (λ a. nat_le (axis_version a) (number_of v)) s.axes all) in
+    let parts = and_parts (int_eq d.jmax (pos 0)) (not d.modulo) (plain-version v _ other here) in
+    record { jmax = (Decides-int_eq d.jmax (pos 0)).0 parts.0; modulo = turns-not d.modulo parts.1 }
+
+-- its last fields are empty
+plain-end : (v : TraceVersion) (d : AxisDef) (unused : List (List ℕ)) → (v ≡ Three → ⊥) → are_empty unused ≡ true → IsPlain d → axis_end_of v unused ≡ Ok (d.jmax, d.modulo)
+unfolding axis_end_of
+plain-end One d unused other none is = rw none (λ i. Ok (sym is.jmax i, sym is.modulo i))
+plain-end Two d unused other none is = rw none (λ i. Ok (sym is.jmax i, sym is.modulo i))
+plain-end Three d unused other none is = absurd (other refl)
+
 pub axis-back : Given → (v : TraceVersion) (s : Setup) → IsMachine s → CanHold v s → (before : List AxisDef) (d : AxisDef) (behind : List AxisDef) →
     s.axes ≡ before ++ d ∷ behind → axis_meaning v (at_axes s before) (drop 1 (padded (axis_fields v d))) ≡ Ok (at_axes s (before ++ d ∷ []))
-unfolding axis_meaning axis_end_meaning are_empty
+unfolding axis_meaning axis_end_of are_empty
 axis-back g One s m can before d behind e =
     let same : d.limits.dmax ≡ d.limits.amax = item-of (λ (a : AxisDef). a.limits.dmax ≡ a.limits.amax) s.axes before d behind e (recursion_from_All _ s.axes (can.braking refl)) in
     let P : ℤ → Type 0 = λ z.
     axis_added One (at_axes s before) d.name
     (signed_decimal d.limits.lo ∷ signed_decimal d.limits.hi ∷ signed_decimal d.limits.vmax ∷ signed_decimal d.limits.amax ∷ signed_decimal z ∷ [])
     (signed_decimal d.inc ∷ signed_decimal d.start ∷ flag_text d.ready ∷ [] ∷ [] ∷ [] ∷ []) ≡ Ok (at_axes s (before ++ d ∷ [])) in
-    subst P same (axis-adds g One s m before d behind e ([] ∷ [] ∷ [] ∷ []) refl)
-axis-back g Two s m can before d behind e = axis-adds g Two s m before d behind e ([] ∷ [] ∷ []) refl
+    subst P same (axis-adds g One s m before d behind e ([] ∷ [] ∷ [] ∷ []) (plain-end One d ([] ∷ [] ∷ [] ∷ []) (λ x. absurd (cc x)) refl (plain-axis One s (λ x. absurd (cc x)) can before d behind e)))
+axis-back g Two s m can before d behind e = axis-adds g Two s m before d behind e ([] ∷ [] ∷ []) (plain-end Two d ([] ∷ [] ∷ []) (λ x. absurd (cc x)) refl (plain-axis Two s (λ x. absurd (cc x)) can before d behind e))
 axis-back g Three s m can before d behind e =
-    axis-adds g Three s m before d behind e (signed_decimal (pos 0) ∷ flag_text false ∷ []) (rw (number-back g (pos 0) (lit≤ tt), g.back.flags false) refl)
+    let is : is_axis d ≡ true = item-of (λ a. is_axis a ≡ true) s.axes before d behind e (each-from_list_all is_axis s.axes m.setup.within.axes) in
+    axis-adds g Three s m before d behind e (signed_decimal d.jmax ∷ flag_text d.modulo ∷ []) (end-back g d is)
 
 -- ---- names of what is there
 
@@ -272,6 +311,14 @@ members-back s m before d behind e =
     rw (texts-back (axis_name s) (members_of d) (omega (arith, count, some)) (each-weaker _ _ (λ n l. axis-without s m n l 59 refl) (members_of d) is.there))
     (each-back (axis_named no_value (at_groups s before)) (axis_name s) (members_of d) (each-weaker _ _ (λ n l. member-back s m before n l) (members_of d) is.there))
 
+-- an axis may be in a group
+joins : (s : Setup) → IsMachine s → (n : ℕ) → n < length s.axes → may_join s.axes n ≡ true
+joins s m n l =
+    let d = there-at s.axes n l in
+    let at = stands-at s.axes n d.item d.at in
+    let plain = item-of (λ a. is_plain_axis a ≡ true) s.axes at.before d.item at.behind at.whole (each-from_list_all is_plain_axis s.axes m.setup.built.axes) in
+    rw d.at ((and_parts (not d.item.modulo) _ (and_parts (is_axis d.item) _ plain).1).0)
+
 group-free : (s : Setup) → IsMachine s → (before : List GroupDef) (d : GroupDef) (behind : List GroupDef) → s.groups ≡ before ++ d ∷ behind →
     group_fault (at_groups s before) d.name (members_of d) ≡ None
 unfolding group_fault
@@ -281,8 +328,8 @@ group-free s m before d behind e =
     let some = is.some in
     let few = is.few in
     let apart : IsDistinct nat_eq (flat_map members_of (before ++ d ∷ behind)) = rw e at m.setup.within.apart in
-    let free : are_free (length s.axes) before (members_of d) ≡ true =
-    free-members (length s.axes) before d behind apart (each-weaker _ _ (λ n l. lt-ltb n (length s.axes) l) (members_of d) is.there) in
+    let free : are_free s.axes before (members_of d) ≡ true =
+    free-members s.axes before d behind apart (each-weaker _ _ (λ n l. joins s m n l) (members_of d) is.there) in
     rw (
       name-new (at_groups s before) d.name (item-of _ s.groups before d behind e (groups-named s m)) (group-new s m before d behind e),
       free,
@@ -304,12 +351,32 @@ group-back s m before d behind e =
 
 -- ---- cam tables
 
-pub table-back : Given → (s : Setup) → IsMachine s → (before : List (List (ℤ × ℤ))) (d : List (ℤ × ℤ)) (behind : List (List (ℤ × ℤ))) → s.tables ≡ before ++ d ∷ behind →
-    table_meaning (at_tables s before) (drop 1 (padded (table_fields d))) ≡ Ok (at_tables s (before ++ d ∷ []))
+-- the sort of a table that the version has
+sort-back : (v : TraceVersion) (k : Sort) → nat_le (sort_version k) (number_of v) ≡ true → sort_meaning v (sort_text k) ≡ Ok k
+unfolding sort_meaning sort_of sort_text says
+sort-back One Plain h = refl
+sort-back Two Plain h = refl
+sort-back Three Plain h = refl
+sort-back Three Once h = refl
+sort-back Three Periodic h = refl
+sort-back One Once h = absurd (cc h)
+sort-back One Periodic h = absurd (cc h)
+sort-back Two Once h = absurd (cc h)
+sort-back Two Periodic h = absurd (cc h)
+
+has-sort : (v : TraceVersion) (s : Setup) → CanHold v s → (before : List Cam) (d : Cam) (behind : List Cam) → s.tables ≡ before ++ d ∷ behind →
+    nat_le (sort_version d.sort) (number_of v) ≡ true
+unfolding has_machine has_sorts
+has-sort v s can before d behind e =
+    let all = (and_parts (has_axes v s.axes) (has_sorts v s.tables) (and_parts (has_axes v s.axes && has_sorts v s.tables) (has_kinds v s.blocks) can.machine).0).1 in
+    item-of (λ (t : Cam). nat_le (sort_version t.sort) (number_of v) ≡ true) s.tables before d behind e (each-from_list_all (λ (t : Cam). nat_le (sort_version t.sort) (number_of v)) s.tables all)
+
+pub table-back : Given → (v : TraceVersion) (s : Setup) → IsMachine s → CanHold v s → (before : List Cam) (d : Cam) (behind : List Cam) → s.tables ≡ before ++ d ∷ behind →
+    table_meaning v (at_tables s before) (drop 1 (padded (table_fields d))) ≡ Ok (at_tables s (before ++ d ∷ []))
 unfolding table_meaning table_added are_empty
-table-back g s m before d behind e =
-    let is : IsCamTable d = item-of IsCamTable s.tables before d behind e m.setup.within.tables in
-    rw (points-back g d is, (g.tables d).1 is, count-before s.tables before d behind MOST_TABLES e m.setup.within.sizes.tables) refl
+table-back g v s m can before d behind e =
+    let is : IsCamTable d.points = item-of (λ (t : Cam). IsCamTable t.points) s.tables before d behind e m.setup.within.tables in
+    rw (sort-back v d.sort (has-sort v s can before d behind e), points-back g d.points is, (g.tables d.points).1 is, count-before s.tables before d behind MOST_TABLES e m.setup.within.sizes.tables) refl
 
 -- ---- tasks
 
@@ -363,8 +430,10 @@ block-free s m before d behind e =
 
 -- the version has each block's kind
 has-each : (v : TraceVersion) (s : Setup) → CanHold v s → AllByRecursion (λ (b : BlockDef). nat_le (first_version b.kind) (number_of v) ≡ true) s.blocks
-unfolding has_kinds
-has-each v s can = each-from_list_all (λ (b : BlockDef). nat_le (first_version b.kind) (number_of v)) s.blocks can.kinds
+unfolding has_machine has_kinds
+has-each v s can =
+    let all = (and_parts (has_axes v s.axes && has_sorts v s.tables) (has_kinds v s.blocks) can.machine).1 in
+    each-from_list_all (λ (b : BlockDef). nat_le (first_version b.kind) (number_of v)) s.blocks all
 
 pub block-back : Given → (v : TraceVersion) (s : Setup) → IsMachine s → CanHold v s → (before : List BlockDef) (d : BlockDef) (behind : List BlockDef) → s.blocks ≡ before ++ d ∷ behind →
     block_meaning v (at_blocks s before) (drop 1 (padded (block_fields s d))) ≡ Ok (at_blocks s (before ++ d ∷ []))

@@ -1,9 +1,10 @@
 -- The machine part of a trace is read back.
 -- for: traces_are_read_back
-use Rattle.std.specs.Prelude.{◌≡◌, refl, ℕ, ◌≤◌, true, nat_le, ℤ, Ok, Some, List, [], ◌∷◌, ◌++◌, decimal, map}
+use Rattle.std.specs.Prelude.{◌≡◌, refl, ℕ, ◌≤◌, true, nat_le, Ok, Some, List, [], ◌∷◌, ◌++◌, decimal, map}
 use Rattle.std.proofs.Common.{arith}
 use Rattle.std.proofs.lemmas.Bool.{leb-true, le-leb}
 use Rattle.plc_types.specs.declared.axis.AxisDef.{AxisDef}
+use Rattle.cam_table.specs.CamTable.{Cam}
 use Rattle.line_text.specs.Texts.{says}
 use Rattle.motion_history.specs.Setup.{Setup}
 use Rattle.motion_history.specs.declared.config.BlockDef.{BlockDef}
@@ -84,10 +85,10 @@ group-read : (v : TraceVersion) (c : Command) (s : Setup) → IsMachine s → (j
 unfolding meaning twelve_meaning later_meaning is_here fields_meaning kind_of kind_text
 group-read v c s m j before x behind e h = rw (h, group-back s m before x behind e) refl
 
-table-read : Given → (v : TraceVersion) (c : Command) (s : Setup) → IsMachine s → (j : Kind) (before : List (List (ℤ × ℤ))) (x : List (ℤ × ℤ)) (behind : List (List (ℤ × ℤ))) →
+table-read : Given → (v : TraceVersion) (c : Command) (s : Setup) → IsMachine s → CanHold v s → (j : Kind) (before : List Cam) (x : Cam) (behind : List Cam) →
     s.tables ≡ before ++ x ∷ behind → nat_le (rank_of j) 2 ≡ true → meaning (in_machine v c j (at_tables s before)) (padded (table_fields x)) ≡ Ok (in_machine v c kind.Table (at_tables s (before ++ x ∷ [])))
 unfolding meaning twelve_meaning later_meaning is_here fields_meaning kind_of kind_text
-table-read g v c s m j before x behind e h = rw (h, table-back g s m before x behind e) refl
+table-read g v c s m can j before x behind e h = rw (h, table-back g v s m can before x behind e) refl
 
 task-read : (v : TraceVersion) (c : Command) (s : Setup) → IsMachine s → (j : Kind) (before : List (List ℕ)) (x : List ℕ) (behind : List (List ℕ)) →
     s.tasks ≡ before ++ x ∷ behind → nat_le (rank_of j) 3 ≡ true → meaning (in_machine v c j (at_tasks s before)) (padded (task_fields x)) ≡ Ok (in_machine v c kind.Task (at_tasks s (before ++ x ∷ [])))
@@ -107,7 +108,7 @@ unfolding item_records
 items-read g v c s m can =
     let axes = items-lead (axis_fields v) (λ k done. in_machine v c k (at_axes s done)) kind.Axis s.axes refl (axis-read g v c s m can) s.axes [] refl kind.Axis refl in
     let groups = items-lead (group_fields s) (λ k done. in_machine v c k (at_groups s done)) kind.Group s.groups refl (group-read v c s m) s.groups [] refl axes.last (later-rank 0 1 (rank_of axes.last) axes.rank (omega arith)) in
-    let tables = items-lead table_fields (λ k done. in_machine v c k (at_tables s done)) kind.Table s.tables refl (table-read g v c s m) s.tables [] refl groups.last (later-rank 1 2 (rank_of groups.last) groups.rank (omega arith)) in
+    let tables = items-lead table_fields (λ k done. in_machine v c k (at_tables s done)) kind.Table s.tables refl (table-read g v c s m can) s.tables [] refl groups.last (later-rank 1 2 (rank_of groups.last) groups.rank (omega arith)) in
     let tasks = items-lead task_fields (λ k done. in_machine v c k (at_tasks s done)) kind.Task s.tasks refl (task-read v c s m) s.tasks [] refl tables.last (later-rank 2 3 (rank_of tables.last) tables.rank (omega arith)) in
     let blocks = items-lead (block_fields s) (λ k done. in_machine v c k (at_blocks s done)) kind.Block s.blocks refl (block-read g v c s m can) s.blocks [] refl tasks.last (later-rank 3 4 (rank_of tasks.last) tasks.rank (omega arith)) in
     let axis_rows = map (axis_fields v) s.axes in

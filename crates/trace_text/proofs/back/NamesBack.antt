@@ -1,6 +1,6 @@
 -- Names are found, and differ from those before them.
 -- for: traces_are_read_back
-use Rattle.std.specs.Prelude.{◌≡◌, refl, ℕ, Bool, true, false, ◌&&◌, not, nat_eq, nat_lt, Some, List, [], ◌∷◌, ◌++◌, map}
+use Rattle.std.specs.Prelude.{◌≡◌, refl, ℕ, Bool, true, false, ◌&&◌, not, nat_eq, Some, List, [], ◌∷◌, ◌++◌, map}
 use Rattle.std.specs.List.{AllByRecursion, IsDistinct, flat_map, list_all, list_any, position}
 use Rattle.std.specs.Str.{bytes_eq}
 use Rattle.std.proofs.Common.{◌∙◌, sym, ap, subst, append_assoc}
@@ -8,7 +8,8 @@ use Rattle.std.proofs.lemmas.Bool.Decides.{Decides-eqb, same_from_decides}
 use Rattle.std.proofs.lemmas.Grind.{flat_map-append}
 use Rattle.std.proofs.lemmas.List.{map-append}
 use Rattle.std.proofs.lemmas.Map.Keys.{IsDistinct-head, IsDistinct-tail}
-use Rattle.motion_history.specs.Faults.{are_distinct, are_free, is_member}
+use Rattle.motion_history.specs.Faults.{are_distinct, are_free, is_member, may_join}
+use Rattle.plc_types.specs.declared.axis.AxisDef.{AxisDef}
 use Rattle.motion_history.specs.Members.{members_of}
 use Rattle.motion_history.specs.declared.config.GroupDef.{GroupDef}
 use Rattle.line_text.proofs.Texts.{bytes-same}
@@ -102,8 +103,8 @@ without [] n ys h = h.1
 without (x ∷ xs) n ys h =
     (each-append (λ y. nat_eq x y ≡ false) xs ys (each-left (λ y. nat_eq x y ≡ false) xs (n ∷ ys) h.0) (each-right (λ y. nat_eq x y ≡ false) xs (n ∷ ys) h.0).1, without xs n ys h.1)
 
-free-each : (axes : ℕ) (groups : List GroupDef) (ns more : List ℕ) → IsDistinct nat_eq (flat_map members_of groups ++ (ns ++ more)) →
-    AllByRecursion (λ axis. nat_lt axis axes ≡ true) ns → list_all (λ axis. nat_lt axis axes && not (is_member groups axis)) ns ≡ true
+free-each : (axes : List AxisDef) (groups : List GroupDef) (ns more : List ℕ) → IsDistinct nat_eq (flat_map members_of groups ++ (ns ++ more)) →
+    AllByRecursion (λ axis. may_join axes axis ≡ true) ns → list_all (λ axis. may_join axes axis && not (is_member groups axis)) ns ≡ true
 free-each axes groups [] more h there = refl
 free-each axes groups (n ∷ ns) more h there =
     let all = flat_map members_of groups in
@@ -112,8 +113,8 @@ free-each axes groups (n ∷ ns) more h there =
     rw (there.0, apart, free-each axes groups ns more next there.1) refl
 
 -- the axes of a group are free before it is added
-pub free-members : (axes : ℕ) (before : List GroupDef) (g : GroupDef) (behind : List GroupDef) →
-    IsDistinct nat_eq (flat_map members_of (before ++ g ∷ behind)) → AllByRecursion (λ axis. nat_lt axis axes ≡ true) (members_of g) →
+pub free-members : (axes : List AxisDef) (before : List GroupDef) (g : GroupDef) (behind : List GroupDef) →
+    IsDistinct nat_eq (flat_map members_of (before ++ g ∷ behind)) → AllByRecursion (λ axis. may_join axes axis ≡ true) (members_of g) →
     are_free axes before (members_of g) ≡ true
 free-members axes before g behind h there =
     let all = flat_map members_of before in

@@ -34,7 +34,7 @@ to-end g v c s es ds h =
     let m = h.machine in
     let found = map (found_entry v s) es in
     let items = machine-read g v c s m h.version in
-    let entries = entries-lead g v c items.last s m es (recursion_from_All (IsWritable s) es h.entries) stage.Machine tt [] found refl in
+    let entries = entries-lead g v c items.last s m es (recursion_from_All (IsWritable v s) es h.entries) stage.Machine tt [] found refl in
     let drives = drives-end g v c items.last s m found entries.stage entries.is ds (recursion_from_All IsDriveEnd ds h.drives) h.as_many in
     record {
       last = items.last;

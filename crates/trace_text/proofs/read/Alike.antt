@@ -96,7 +96,7 @@ fields-alike : (es : List FoundEntry) (s : SoFar) (k : Kind) (fields : List (Lis
 unfolding fields_meaning
 fields-alike es s kind.Axis fields = item-alike es s kind.Axis (axis_meaning s.version s.setup fields)
 fields-alike es s kind.Group fields = item-alike es s kind.Group (group_meaning s.setup fields)
-fields-alike es s kind.Table fields = item-alike es s kind.Table (table_meaning s.setup fields)
+fields-alike es s kind.Table fields = item-alike es s kind.Table (table_meaning s.version s.setup fields)
 fields-alike es s kind.Task fields = item-alike es s kind.Task (task_meaning s.setup fields)
 fields-alike es s kind.Block fields = item-alike es s kind.Block (block_meaning s.version s.setup fields)
 fields-alike es s kind.Call fields = entry-alike es s (call_meaning s.version s.setup fields)

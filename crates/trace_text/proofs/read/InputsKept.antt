@@ -1,6 +1,6 @@
 -- The inputs of a call that is read are those of its block's kind.
 -- for: read_trace, read_within_room
-use Rattle.std.proofs.Common.{◌≡◌, ℕ, zero, suc, ◌-◌, ◌<◌, ◌≤◌, ℤ, Bool, true, false, Some, Ok, Err, List, [], ◌∷◌, ◌++◌, length, refl, sym, ◌∙◌, subst, arith, inl, inr, lit<, lit≤}
+use Rattle.std.proofs.Common.{◌≡◌, ℕ, zero, suc, ◌-◌, ◌<◌, ◌≤◌, ℤ, Bool, true, false, Some, Ok, Err, List, [], ◌∷◌, ◌++◌, length, refl, sym, ◌∙◌, ap, subst, arith, inl, inr, lit<, lit≤}
 use Rattle.std.specs.Prelude.{pos, neg_ℤ, ◌^◌, ◌≤ℤ◌, ◌==◌, replicate, slice_get, slice_index_or}
 use Rattle.std.specs.List.{AllByRecursion}
 use Rattle.std.proofs.lemmas.Bool.{cases_Bool, eqb-true}
@@ -8,20 +8,26 @@ use Rattle.std.proofs.lemmas.Int.{ints}
 use Rattle.std.proofs.lemmas.List.{length-append, length-replicate}
 use Rattle.plc_types.specs.Kinds.{acts_on_group}
 use Rattle.plc_types.specs.declared.kind.BlockKind.{BlockKind}
-use Rattle.plc_types.specs.declared.kind.BlockKind.TheVariants.{GearIn, CamIn}
+use Rattle.plc_types.specs.declared.kind.BlockKind.TheVariants.{GearIn, CamIn, GearInPos, SetOverride, GroupSetOverride}
 use Rattle.plc_types.specs.declared.kind.BufferMode.{BufferMode}
 use Rattle.plc_types.specs.declared.kind.BufferMode.TheVariants.{Aborting}
-use Rattle.plc_types.specs.Inputs.{AreInputs, IsTaken, takes}
+use Rattle.plc_types.specs.declared.kind.Direction.{Direction}
+use Rattle.plc_types.specs.declared.kind.Direction.TheVariants.{Shortest}
+use Rattle.plc_types.specs.Inputs.{AreInputs, IsTaken, position_count, takes, takes_in}
+use Rattle.plc_types.specs.KindNames.{mode_named}
 use Rattle.plc_types.specs.declared.inputs.Input.{Input}
+use Rattle.plc_types.specs.declared.inputs.Input.TheVariants as taken
 use Rattle.plc_types.specs.declared.inputs.Input.TheVariants.{Position, Velocity, Acceleration, Deceleration, Jerk, Mode, Master, Numerator, Denominator, Table}
 use Rattle.plc_types.specs.declared.inputs.Inputs.{Inputs}
 use Rattle.plc_types.specs.declared.outputs.Outputs.{Outputs}
 use Rattle.line_text.specs.Reading.{each_of}
 use Rattle.line_text.specs.Rules.{broken_unless}
+use Rattle.machine_words.specs.Inputs.{positions_for}
 use Rattle.machine_words.specs.Names.{axis_at, axis_named, block_at, task_at}
 use Rattle.machine_words.specs.Positions.{no_positions, positions_from}
 use Rattle.motion_history.specs.Calls.{axes_of, count_in}
 use Rattle.motion_history.specs.Setup.{Setup}
+use Rattle.motion_history.specs.Versions.{number_of}
 use Rattle.motion_history.specs.declared.config.BlockDef.{BlockDef}
 use Rattle.motion_history.specs.declared.config.GroupDef.{GroupDef}
 use Rattle.motion_history.specs.declared.refused.TraceVersion.{TraceVersion}
@@ -29,12 +35,12 @@ use Rattle.motion_history.specs.declared.sizes.TheConstants.{MOST_MEMBERS}
 use Rattle.motion_numbers.specs.declared.TheConstants.{MOST_NUMBER}
 use Rattle.trace_columns.specs.Columns.{flag_of, outputs_of, size_limited_of, unsigned_of}
 use Rattle.trace_text.specs.reading.Events.{call_by, call_meaning, end_meaning, reply_of}
-use Rattle.trace_text.specs.reading.Inputs.{cam_of, follow_of, gear_of, halves, input_of, inputs_of, joined_positions, last_of, mode_of, no_master, positions_of, rates_of}
+use Rattle.trace_text.specs.reading.Inputs.{cam_of, follow_of, gear_of, halves, input_of, inputs_of, joined_positions, last_of, mode_meaning, mode_of, no_master, positions_of, rates_of, ratio_of, undirected_of}
 use Rattle.trace_text.specs.reading.Rules.{are_empty, is_empty, unused, value}
 use Rattle.trace_text.specs.reading.InputFields.{InputTexts}
 use Rattle.trace_text.specs.reading.Items.{number, parts_of}
 use Rattle.trace_text.specs.TraceKept.{IsEntryRead}
-use Rattle.trace_text.specs.Writable.{IsWritableCall}
+use Rattle.trace_text.specs.Writable.{IsOfVersion, IsWritableCall}
 use Rattle.trace_text.specs.declared.reading.inputs.Followed.{Followed}
 use Rattle.trace_text.specs.declared.reading.inputs.Last.{Last}
 use Rattle.trace_text.specs.declared.reading.inputs.Rates.{Rates}
@@ -82,11 +88,35 @@ input-taken k input text z h = elim (cases_Bool (takes k input)) [
       record { left_out = λ none. sym is; size = subst IsSmall is (lit≤ tt) }
 ]
 
-mode-left : (v : TraceVersion) (k : BlockKind) (text : List ℕ) (m : BufferMode) → mode_of v k text ≡ Ok m → takes k Mode ≡ false → m ≡ Aborting
+mode-left : (v : TraceVersion) (k : BlockKind) (text : List ℕ) (m : BufferMode × Direction) → mode_of v k text ≡ Ok m → takes k Mode ≡ false → m.0 ≡ Aborting
 unfolding mode_of
 mode-left v k text m h fails =
-    let e : unused text Aborting ≡ Ok m = rw fails at h in
-    sym (unused-is text Aborting m e)
+    let e : unused text (Aborting, Shortest) ≡ Ok m = rw fails at h in
+    let is : (Aborting, Shortest) ≡ m = unused-is text (Aborting, Shortest) m e in
+    ap (λ (x : BufferMode × Direction). x.0) (sym is)
+
+-- a direction that isn't read is the shortest
+undirected : (text : List ℕ) (m : BufferMode × Direction) → undirected_of text ≡ Ok m → m.1 ≡ Shortest
+unfolding undirected_of
+undirected text m h =
+    let mode = bind_ok (value (mode_named text)) _ m h in
+    let x : BufferMode × Direction = (mode.0, Shortest) in
+    let is : x ≡ m = ok_is (Ok x) x m refl mode.2 in
+    ap (λ (y : BufferMode × Direction). y.1) (sym is)
+
+direction-left : (v : TraceVersion) (k : BlockKind) (text : List ℕ) (m : BufferMode × Direction) → mode_of v k text ≡ Ok m → takes_in (number_of v) k taken.Direction ≡ false → m.1 ≡ Shortest
+unfolding mode_of mode_meaning
+direction-left v k text m h fails = elim (cases_Bool (takes k Mode)) [
+  | inl passes ↦ let e : undirected_of text ≡ Ok m = rw (passes, fails) at h in undirected text m e
+  | inr none ↦
+      let e : unused text (Aborting, Shortest) ≡ Ok m = rw none at h in
+      let is : (Aborting, Shortest) ≡ m = unused-is text (Aborting, Shortest) m e in
+      ap (λ (x : BufferMode × Direction). x.1) (sym is)
+]
+
+-- what a kind doesn't take, it takes in no version
+in-none : (n : ℕ) (k : BlockKind) (i : Input) → takes k i ≡ false → takes_in n k i ≡ false
+in-none n k i none = rw none refl
 
 -- ---- positions
 
@@ -101,6 +131,12 @@ axes-few s b h = elim (cases_Bool (acts_on_group b.kind)) [
   | inl passes ↦ rw passes (count-few s.groups b.object h)
   | inr fails ↦ rw fails (lit≤ tt)
 ]
+
+-- nor does it have more positions
+count-most : (k : BlockKind) (n : ℕ) → n ≤ MOST_MEMBERS → position_count k n ≤ MOST_MEMBERS
+count-most GearInPos n h = lit≤ tt
+count-most CamIn n h = lit≤ tt
+count-most _ n h = h
 
 record ArePositions (takes : Bool) (axes : ℕ) (ps : List ℤ) : Type 0 where
   long : length ps ≡ MOST_MEMBERS
@@ -135,15 +171,15 @@ none-are axes = record {
   few = λ n h. zeros-at MOST_MEMBERS n;
 }
 
-positions-are : (s : Setup) (b : BlockDef) (text : List ℕ) (ps : List ℤ) → HasArrays s → positions_of s b text ≡ Ok ps → ArePositions (takes b.kind Position) (axes_of s b) ps
+positions-are : (v : TraceVersion) (s : Setup) (b : BlockDef) (text : List ℕ) (ps : List ℤ) → HasArrays s → positions_of v s b text ≡ Ok ps → ArePositions (takes_in (number_of v) b.kind Position) (positions_for s b) ps
 unfolding positions_of
-positions-are s b text ps arrays h = elim (cases_Bool (takes b.kind Position)) [
+positions-are v s b text ps arrays h = elim (cases_Bool (takes_in (number_of v) b.kind Position)) [
   | inl passes ↦
-      let e : joined_positions (axes_of s b) text ≡ Ok ps = rw passes at h in
-      rw passes (joined-are (axes_of s b) text ps (axes-few s b arrays) e)
+      let e : joined_positions (positions_for s b) text ≡ Ok ps = rw passes at h in
+      rw passes (joined-are (positions_for s b) text ps (count-most b.kind (axes_of s b) (axes-few s b arrays)) e)
   | inr fails ↦
       let e : unused text no_positions ≡ Ok ps = rw fails at h in
-      rw fails (subst (λ qs. ArePositions false (axes_of s b) qs) (unused-is text no_positions ps e) (none-are (axes_of s b)))
+      rw fails (subst (λ qs. ArePositions false (positions_for s b) qs) (unused-is text no_positions ps e) (none-are (positions_for s b)))
 ]
 
 -- ---- what an axis follows
@@ -162,23 +198,62 @@ record IsFollowed (s : Setup) (k : BlockKind) (f : Followed) : Type 0 where
 one-taken : (t : Bool) → IsTaken t (pos 1) (pos 1)
 one-taken t = record { left_out = λ fails. refl; size = lit≤ tt }
 
-gear-followed : (s : Setup) (text : List ℕ) (f : Followed) → gear_of s text ≡ Ok f → IsFollowed s GearIn f
+-- what is taken, and small
+taken-small : (t : Bool) (z : ℤ) → t ≡ true → IsSmall z → IsTaken t (pos 1) z
+taken-small t z passes small = record { left_out = λ fails. let x : true ≡ false = sym passes ∙ fails in absurd (cc x); size = small }
+
+-- a ratio
+record IsRatio (f : Followed) : Type 0 where
+  master : f.master ≡ 0
+  numerator : IsSmall f.numerator
+  denominator : IsSmall f.denominator
+  table : f.table ≡ 0
+
+ratio-is : (text : List ℕ) (f : Followed) → ratio_of text ≡ Ok f → IsRatio f
+unfolding ratio_of
+ratio-is text f h =
+    let parts = bind_ok (halves text) _ f h in
+    let n = bind_ok (number parts.0.0) _ f parts.2 in
+    let d = bind_ok (number parts.0.1) _ f n.2 in
+    let r : Followed = record { master = 0; numerator = n.0; denominator = d.0; table = 0 } in
+    subst IsRatio (ok_is (Ok r) r f refl d.2)
+    (record { master = refl; numerator = number-small parts.0.0 n.0 n.1; denominator = number-small parts.0.1 d.0 d.1; table = refl })
+
+-- a kind that takes a ratio, and no table
+record TakesRatio (k : BlockKind) : Type 0 where
+  numerator : takes k Numerator ≡ true
+  denominator : takes k Denominator ≡ true
+
+ratio-followed : (s : Setup) (k : BlockKind) (text : List ℕ) (f : Followed) → TakesRatio k → 1 ≤ length s.axes → ratio_of text ≡ Ok f → IsFollowed s k f
+ratio-followed s k text f kind some h =
+    let r = ratio-is text f h in
+    let none = r.table in
+    let first = r.master in record {
+      there = omega (arith, first, some);
+      master = λ fails. first;
+      numerator = taken-small _ _ kind.numerator r.numerator;
+      denominator = taken-small _ _ kind.denominator r.denominator;
+      table = λ fails. none;
+      word = omega (arith, none);
+    }
+
+gear-followed : (s : Setup) (k : BlockKind) (text : List ℕ) (f : Followed) → TakesRatio k → takes k Master ≡ true → gear_of s text ≡ Ok f → IsFollowed s k f
 unfolding gear_of
-gear-followed s text f h =
+gear-followed s k text f kind passes h =
     let parts = bind_ok (halves text) _ f h in
     let master = bind_ok (axis_named no_value s parts.0.0) _ f parts.2 in
-    let ratio = bind_ok (halves parts.0.1) _ f master.2 in
-    let n = bind_ok (number ratio.0.0) _ f ratio.2 in
-    let d = bind_ok (number ratio.0.1) _ f n.2 in
-    let r : Followed = record { master = master.0; numerator = n.0; denominator = d.0; table = 0 } in
-    let is : r ≡ f = ok_is (Ok r) r f refl d.2 in
-    subst (λ x. IsFollowed s GearIn x) is (record {
+    let ratio = bind_ok (ratio_of parts.0.1) _ f master.2 in
+    let x : Followed = record ratio.0 { master = master.0 } in
+    let is : x ≡ f = ok_is (Ok x) x f (refl {a = Ok x}) ratio.2 in
+    let r = ratio-is parts.0.1 ratio.0 ratio.1 in
+    let none = r.table in
+    subst (λ y. IsFollowed s k y) is (record {
       there = named-within s parts.0.0 master.0 master.1;
-      master = λ fails. absurd (cc fails);
-      numerator = record { left_out = λ fails. absurd (cc fails); size = number-small ratio.0.0 n.0 n.1 };
-      denominator = record { left_out = λ fails. absurd (cc fails); size = number-small ratio.0.1 d.0 d.1 };
-      table = λ fails. refl;
-      word = lit< tt;
+      master = λ fails. let y : true ≡ false = sym passes ∙ fails in absurd (cc y);
+      numerator = taken-small _ _ kind.numerator r.numerator;
+      denominator = taken-small _ _ kind.denominator r.denominator;
+      table = λ fails. none;
+      word = omega (arith, none);
     })
 
 cam-followed : (s : Setup) (text : List ℕ) (f : Followed) → cam_of s text ≡ Ok f → IsFollowed s CamIn f
@@ -212,8 +287,11 @@ none-followed s k text f some h =
 
 followed : (s : Setup) (k : BlockKind) (text : List ℕ) (f : Followed) → 1 ≤ length s.axes → follow_of s k text ≡ Ok f → IsFollowed s k f
 unfolding follow_of
-followed s GearIn text f some h = gear-followed s text f h
+followed s GearIn text f some h = gear-followed s GearIn text f (record { numerator = refl; denominator = refl }) refl h
+followed s GearInPos text f some h = gear-followed s GearInPos text f (record { numerator = refl; denominator = refl }) refl h
 followed s CamIn text f some h = cam-followed s text f h
+followed s SetOverride text f some h = ratio-followed s SetOverride text f (record { numerator = refl; denominator = refl }) some h
+followed s GroupSetOverride text f some h = ratio-followed s GroupSetOverride text f (record { numerator = refl; denominator = refl }) some h
 followed s k text f some h = none-followed s k text f some h
 
 -- ---- calls
@@ -240,30 +318,33 @@ rates-are k (velocity ∷ acceleration ∷ deceleration ∷ jerk ∷ []) r h =
     })
 rates-are k _ r h = absurd (cc h)
 
-record IsLast (s : Setup) (k : BlockKind) (l : Last) : Type 0 where
+record IsLast (v : TraceVersion) (s : Setup) (k : BlockKind) (l : Last) : Type 0 where
   mode : takes k Mode ≡ false → l.mode ≡ Aborting
+  direction : takes_in (number_of v) k taken.Direction ≡ false → l.direction ≡ Shortest
   followed : IsFollowed s k l.followed
 
-last-is : (v : TraceVersion) (s : Setup) (k : BlockKind) (fields : List (List ℕ)) (l : Last) → 1 ≤ length s.axes → last_of v s k fields ≡ Ok l → IsLast s k l
+last-is : (v : TraceVersion) (s : Setup) (k : BlockKind) (fields : List (List ℕ)) (l : Last) → 1 ≤ length s.axes → last_of v s k fields ≡ Ok l → IsLast v s k l
 unfolding last_of
 last-is v s k (mode ∷ follow ∷ []) l some h =
     let m = bind_ok (mode_of v k mode) _ l h in
     let f = bind_ok (follow_of s k follow) _ l m.2 in
-    let x : Last = record { mode = m.0; followed = f.0 } in
-    subst (λ y. IsLast s k y) (ok_is (Ok x) x l refl f.2) (record { mode = mode-left v k mode m.0 m.1; followed = followed s k follow f.0 some f.1 })
+    let x : Last = record { mode = m.0.0; direction = m.0.1; followed = f.0 } in
+    subst (λ y. IsLast v s k y) (ok_is (Ok x) x l refl f.2)
+    (record { mode = mode-left v k mode m.0 m.1; direction = direction-left v k mode m.0 m.1; followed = followed s k follow f.0 some f.1 })
 last-is v s k _ l some h = absurd (cc h)
 
-record AreFit (s : Setup) (b : BlockDef) (i : Inputs) : Type 0 where
+record AreFit (v : TraceVersion) (s : Setup) (b : BlockDef) (i : Inputs) : Type 0 where
   inputs : AreInputs b.kind (axes_of s b) i
+  version : IsOfVersion v b.kind i
   master : i.master < length s.axes
   long : length i.positions ≡ MOST_MEMBERS
   word : i.table < 2 ^ 16
 
-inputs-fit : (v : TraceVersion) (s : Setup) (b : BlockDef) (fields : InputTexts) (i : Inputs) → 1 ≤ length s.axes → HasArrays s → inputs_of v s b fields ≡ Ok i → AreFit s b i
+inputs-fit : (v : TraceVersion) (s : Setup) (b : BlockDef) (fields : InputTexts) (i : Inputs) → 1 ≤ length s.axes → HasArrays s → inputs_of v s b fields ≡ Ok i → AreFit v s b i
 unfolding inputs_of
 inputs-fit v s b fields i some arrays h =
     let e = bind_ok (value (flag_of fields.execute)) _ i h in
-    let p = bind_ok (positions_of s b fields.positions) _ i e.2 in
+    let p = bind_ok (positions_of v s b fields.positions) _ i e.2 in
     let r = bind_ok (rates_of b.kind fields.rates) _ i p.2 in
     let l = bind_ok (last_of v s b.kind fields.last) _ i r.2 in
     let x : Inputs = record {
@@ -274,29 +355,32 @@ inputs-fit v s b fields i some arrays h =
       deceleration = r.0.deceleration;
       jerk = r.0.jerk;
       mode = l.0.mode;
+      direction = l.0.direction;
       master = l.0.followed.master;
       numerator = l.0.followed.numerator;
       denominator = l.0.followed.denominator;
       table = l.0.followed.table;
     } in
     let is : x ≡ i = ok_is (Ok x) x i refl l.2 in
-    let positions = positions-are s b fields.positions p.0 arrays p.1 in
+    let positions = positions-are v s b fields.positions p.0 arrays p.1 in
     let rates = rates-are b.kind fields.rates r.0 r.1 in
     let last = last-is v s b.kind fields.last l.0 some l.1 in
-    subst (λ y. AreFit s b y) is (record {
+    subst (λ y. AreFit v s b y) is (record {
       inputs = record {
-        positions = positions.each;
+        positions = λ n. let each = positions.each n in record { left_out = λ none. each.left_out (in-none (number_of v) b.kind Position none); size = each.size };
         few_positions = positions.few;
         velocity = rates.velocity;
         acceleration = rates.acceleration;
         deceleration = rates.deceleration;
         jerk = rates.jerk;
         mode = last.mode;
+        direction = λ none. last.direction (in-none (number_of v) b.kind taken.Direction none);
         master = last.followed.master;
         numerator = last.followed.numerator;
         denominator = last.followed.denominator;
         table = last.followed.table;
       };
+      version = record { positions = λ none n. (positions.each n).left_out none; direction = last.direction };
       master = last.followed.there;
       long = positions.long;
       word = last.followed.word;
@@ -322,12 +406,14 @@ call-by v s name inputs reply e some arrays h =
     let fit = inputs-fit v s b.0 inputs i.0 some arrays i.1 in
     let at : slice_get s.blocks k.0 ≡ Some b.0 = results.found (slice_get s.blocks k.0) no_value b.0 b.1 in
     let P : BlockDef → Type 0 = λ d. AreInputs d.kind (axes_of s d) i.0 in
-    let made : IsWritableCall s k.0 i.0 o.0 = record {
+    let Q : BlockDef → Type 0 = λ d. IsOfVersion v d.kind i.0 in
+    let made : IsWritableCall v s k.0 i.0 o.0 = record {
       call = record {
         there = block-within s name k.0 (results.found (block_at s name) no_value k.0 k.1);
         inputs = λ d other. let same : b.0 ≡ d = let x : Some b.0 ≡ Some d = sym at ∙ other in cc in subst P same fit.inputs;
         master = fit.master;
       };
+      version = λ d other. let same : b.0 ≡ d = let x : Some b.0 ≡ Some d = sym at ∙ other in cc in subst Q same fit.version;
       positions = fit.long;
       table = fit.word;
       error = reply-word reply o.0 o.1;

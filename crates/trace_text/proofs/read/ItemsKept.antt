@@ -7,7 +7,6 @@ use Rattle.std.specs.Option.{ok_or}
 use Rattle.std.proofs.lemmas.Bool.{ltb-false}
 use Rattle.std.proofs.lemmas.List.{length-append, length-replicate}
 use Rattle.plc_types.specs.Names.{is_name}
-use Rattle.plc_types.specs.KindNames.{kind_in}
 use Rattle.line_text.specs.Reading.{each_of}
 use Rattle.line_text.specs.Rules.{broken_unless, in_range}
 use Rattle.machine_words.specs.Names.{axis_named, object_at, task_at}
@@ -15,14 +14,13 @@ use Rattle.machine_words.specs.Rules.{broken_by}
 use Rattle.motion_history.specs.Faults.{are_free, axis_fault, block_fault, first_fault, group_fault, name_fault, task_fault}
 use Rattle.motion_history.specs.Members.{group_of}
 use Rattle.motion_history.specs.Setup.{Setup}
-use Rattle.motion_history.specs.Versions.{number_of}
 use Rattle.motion_history.specs.declared.config.GroupDef.{GroupDef}
 use Rattle.motion_history.specs.declared.fault.ConfigFault.{ConfigFault}
 use Rattle.motion_history.specs.declared.fault.ConfigFault.TheVariants.{NameUnknown, TooMany, TooFew}
 use Rattle.motion_history.specs.declared.refused.TraceVersion.{TraceVersion}
 use Rattle.motion_history.specs.declared.refused.TraceVersion.TheVariants.{One, Two, Three}
 use Rattle.motion_history.specs.declared.sizes.TheConstants.{MOST_CYCLES, MOST_ENTRIES, MOST_GROUPS, MOST_MEMBERS}
-use Rattle.trace_text.specs.reading.Items.{axis_added, axis_meaning, block_meaning, group_meaning, is_object, kind_meaning, limits_of, number, parts_of, placed_of, point, room_meaning, table_meaning, task_meaning}
+use Rattle.trace_text.specs.reading.Items.{axis_added, axis_meaning, axis_of, block_meaning, group_meaning, is_object, kind_meaning, limits_of, number, parameters_of, parts_of, point, room_meaning, sort_meaning, table_meaning, task_meaning}
 use Rattle.trace_text.specs.reading.Rules.{are_empty, rule_of, value}
 use Rattle.trace_text.specs.reading.RuleNumbers.{item_refused, item_rules, no_value}
 use Rattle.line_text.proofs.Results.{bind_ok, ok_is}
@@ -56,7 +54,7 @@ few-members : (s : Setup) (name axes : List ℕ) → group_fault s name axes ≡
 unfolding group_fault
 few-members s name axes h =
     let none = second-none (name_fault s name) _ h in
-    let many = not-many (are_free (length s.axes) s.groups axes) (nat_le MOST_GROUPS (length s.groups) || nat_lt MOST_MEMBERS (length axes)) (nat_lt (length axes) 2) none in
+    let many = not-many (are_free s.axes s.groups axes) (nat_le MOST_GROUPS (length s.groups) || nat_lt MOST_MEMBERS (length axes)) (nat_lt (length axes) 2) none in
     ltb-false MOST_MEMBERS (length axes) (second-false (nat_le MOST_GROUPS (length s.groups)) (nat_lt MOST_MEMBERS (length axes)) many)
 
 group-array : (name axes : List ℕ) → length axes ≤ MOST_MEMBERS → IsArray (group_of name axes)
@@ -73,9 +71,9 @@ unfolding axis_added
 added-kept v s t name limits behind h e =
     let named = bind_ok (broken_unless (is_name name) no_value) _ t e in
     let l = bind_ok (limits_of limits) _ t named.2 in
-    let p = bind_ok (placed_of v behind) _ t l.2 in
-    let fault = bind_ok (broken_by rule_of (axis_fault s name l.0 p.0.inc p.0.start)) _ t p.2 in
-    let x : Setup = record s { axes = s.axes ++ record { name = name; limits = l.0; inc = p.0.inc; start = p.0.start; ready = p.0.ready } ∷ [] } in
+    let p = bind_ok (parameters_of v l.0 behind) _ t l.2 in
+    let fault = bind_ok (broken_by rule_of (axis_fault s name p.0)) _ t p.2 in
+    let x : Setup = record s { axes = s.axes ++ axis_of name p.0 ∷ [] } in
     let is : x ≡ t = ok_is (Ok x) x t refl fault.2 in
     subst HasArrays is h
 
@@ -98,13 +96,14 @@ group-kept s t (name ∷ members ∷ unused) h e =
     subst HasArrays is (all-push IsArray s.groups (group_of name axes.0) h (group-array name axes.0 few))
 group-kept s t _ h e = absurd (cc e)
 
-pub table-kept : (s t : Setup) (fields : List (List ℕ)) → HasArrays s → table_meaning s fields ≡ Ok t → HasArrays t
+pub table-kept : (v : TraceVersion) (s t : Setup) (fields : List (List ℕ)) → HasArrays s → table_meaning v s fields ≡ Ok t → HasArrays t
 unfolding table_meaning
-table-kept s t (told ∷ unused) h e =
-    let empty = bind_ok (broken_unless (are_empty unused) no_value) _ t e in
+table-kept v s t (told ∷ sort ∷ unused) h e =
+    let k = bind_ok (sort_meaning v sort) _ t e in
+    let empty = bind_ok (broken_unless (are_empty unused) no_value) _ t k.2 in
     let points = bind_ok (each_of point (parts_of told)) _ t empty.2 in
-    subst HasArrays (sym (table_added-is item_rules s t points.0 points.2)) h
-table-kept s t _ h e = absurd (cc e)
+    subst HasArrays (sym (table_added-is item_rules s t k.0 points.0 points.2)) h
+table-kept v s t _ h e = absurd (cc e)
 
 pub task-kept : (s t : Setup) (fields : List (List ℕ)) → HasArrays s → task_meaning s fields ≡ Ok t → HasArrays t
 unfolding task_meaning

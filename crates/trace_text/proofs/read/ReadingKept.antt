@@ -1,7 +1,7 @@
 -- The invariant of a trace that is read.
 -- for: read_trace, read_within_room
 use Rattle.std.proofs.Common.{FitsSigned, w64, ◌^◌, ◌≡◌, ℕ, ◌+◌, ◌<◌, ◌≤◌, Bool, true, false, Some, None, Result, Ok, Err, List, [], ◌∷◌, ◌++◌, length, refl, sym, ◌∙◌, ap, subst, arith, inl, inr}
-use Rattle.std.specs.Prelude.{◌&&◌, ◌||◌, ◌==◌, codes, cond, nat_le}
+use Rattle.std.specs.Prelude.{◌&&◌, ◌||◌, ◌==◌, codes, cond, nat_le, not}
 use Rattle.std.specs.List.{AllByRecursion}
 use Rattle.std.specs.Option.{ok_or, option_to_list}
 use Rattle.std.proofs.lemmas.Bool.{and_parts, cases_Bool, eqb-true, false_from_ne_true, leb-false, leb-true, ltb-true}
@@ -10,10 +10,10 @@ use Rattle.std.proofs.lemmas.List.Elements.{All-from_recursion}
 use Rattle.line_text.specs.Reading.{at_line}
 use Rattle.line_text.specs.Rules.{broken_unless}
 use Rattle.line_text.specs.Texts.{says}
-use Rattle.motion_history.specs.Faults.{whole_fault}
+use Rattle.motion_history.specs.Faults.{asks_for_built, has_items, whole_fault}
 use Rattle.motion_history.specs.Setup.{IsSetup, Setup}
 use Rattle.motion_history.specs.declared.config.GroupDef.{GroupDef}
-use Rattle.motion_history.specs.declared.fault.ConfigFault.TheVariants.{TooFew}
+use Rattle.motion_history.specs.declared.fault.ConfigFault.TheVariants.{NotBuilt, TooFew}
 use Rattle.motion_history.specs.declared.refused.TraceVersion.{TraceVersion}
 use Rattle.motion_history.specs.declared.refused.TraceVersion.TheVariants.{One, Two, Three}
 use Rattle.motion_history.specs.declared.sizes.TheConstants.{MOST_MEMBERS}
@@ -135,14 +135,14 @@ still-rows stage.Machine s is h = absurd (cc is)
 still-rows stage.Entries s is h = absurd (cc is)
 still-rows stage.Drives s is h = absurd (cc is)
 
-whole-fault : (b : Bool) → cond b None (Some TooFew) ≡ None → b ≡ true
-whole-fault true h = refl
-whole-fault false h = absurd (cc h)
+whole-fault : (a b : Bool) → cond (not a) (Some TooFew) (cond (not b) (Some NotBuilt) None) ≡ None → a ≡ true
+whole-fault true b h = refl
+whole-fault false b h = absurd (cc h)
 
 some-axis : (s : Setup) (u : Unit {0}) → whole s ≡ Ok u → 1 ≤ length s.axes
 some-axis s u h =
     let none = faultless rule_of (whole_fault s) u h in
-    let tests = whole-fault _ none in
+    let tests = whole-fault (has_items s) (asks_for_built s) none in
     leb-true 1 (length s.axes) (and_parts _ _ (and_parts _ _ tests).0).0
 
 -- ---- records
@@ -278,7 +278,7 @@ fields-kept : (s t : SoFar) (k : Kind) (fields : List (List ℕ)) → is_here s 
 unfolding fields_meaning is_here
 fields-kept s t kind.Axis fields is h e = item-kept s t kind.Axis (axis_meaning s.version s.setup fields) (and_parts _ _ is).0 h (λ u x. axis-kept s.version s.setup u fields h.arrays x) e
 fields-kept s t kind.Group fields is h e = item-kept s t kind.Group (group_meaning s.setup fields) (and_parts _ _ is).0 h (λ u x. group-kept s.setup u fields h.arrays x) e
-fields-kept s t kind.Table fields is h e = item-kept s t kind.Table (table_meaning s.setup fields) (and_parts _ _ is).0 h (λ u x. table-kept s.setup u fields h.arrays x) e
+fields-kept s t kind.Table fields is h e = item-kept s t kind.Table (table_meaning s.version s.setup fields) (and_parts _ _ is).0 h (λ u x. table-kept s.version s.setup u fields h.arrays x) e
 fields-kept s t kind.Task fields is h e = item-kept s t kind.Task (task_meaning s.setup fields) (and_parts _ _ is).0 h (λ u x. task-kept s.setup u fields h.arrays x) e
 fields-kept s t kind.Block fields is h e = item-kept s t kind.Block (block_meaning s.version s.setup fields) (and_parts _ _ is).0 h (λ u x. block-kept s.version s.setup u fields h.arrays x) e
 fields-kept s t kind.Call fields is h e = entry-kept s t (call_meaning s.version s.setup fields) is h (λ x some arrays r. call-read s.version s.setup fields x some arrays r) e

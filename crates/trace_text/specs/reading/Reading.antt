@@ -154,7 +154,7 @@ drives_meaning s fields = do
 unfoldable pub fields_meaning : SoFar → Kind → List (List ℕ) → Result SoFar ℕ
 fields_meaning s kind.Axis fields = with_item s kind.Axis (axis_meaning s.version s.setup fields)
 fields_meaning s kind.Group fields = with_item s kind.Group (group_meaning s.setup fields)
-fields_meaning s kind.Table fields = with_item s kind.Table (table_meaning s.setup fields)
+fields_meaning s kind.Table fields = with_item s kind.Table (table_meaning s.version s.setup fields)
 fields_meaning s kind.Task fields = with_item s kind.Task (task_meaning s.setup fields)
 fields_meaning s kind.Block fields = with_item s kind.Block (block_meaning s.version s.setup fields)
 fields_meaning s kind.Call fields = with_entry s (call_meaning s.version s.setup fields)

@@ -26,6 +26,10 @@ item_refused = 5
 abbrev pub too_short : ℕ
 too_short = 6
 
+-- the machine asks for what isn't built yet
+abbrev pub not_built : ℕ
+not_built = 7
+
 -- the rules that the points of a cam table break
 abbrev pub item_rules : ItemRules
 item_rules = record { wrong = item_refused; too_many = item_refused }

@@ -5,15 +5,17 @@ use Rattle.std.specs.Option.{ok_or}
 use Rattle.line_text.specs.Reading.{◌>>=◌}
 use Rattle.line_text.specs.Rules.{broken_unless}
 use Rattle.motion_history.specs.declared.fault.ConfigFault.{ConfigFault}
-use Rattle.trace_text.specs.reading.RuleNumbers.{item_refused, no_value}
+use Rattle.motion_history.specs.declared.fault.ConfigFault.TheVariants.{NotBuilt}
+use Rattle.trace_text.specs.reading.RuleNumbers.{item_refused, no_value, not_built}
 
 -- a field without a value of its column breaks its rule
 abbrev pub value : {A : Type 0} → Option A → Result A ℕ
 value found = ok_or found no_value
 
--- each fault of an item breaks one rule
+-- the rule that is broken by a fault of an item or of the machine
 abbrev pub rule_of : ConfigFault → ℕ
-rule_of fault = item_refused
+rule_of NotBuilt = not_built
+rule_of _ = item_refused
 
 -- whether a field is empty
 abbrev pub is_empty : List ℕ → Bool

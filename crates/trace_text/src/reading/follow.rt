@@ -21,14 +21,15 @@ const NO_MASTER: Followed = Followed {
     table: 0,
 };
 
-/// What an axis follows, by the kind.
+/// What an axis follows, and the ratio of an override, by the kind.
 #[tactic(auto, unfolding(crate::specs::reading::Inputs::follow_of))]
 pub fn follow_of(machine: &Builder, kind: BlockKind, text: &[u8]) -> Result<Followed, LineFault>
     ensures { Gives (λ f. f) (spec.follow_of machine.now kind text.now) result }
 {
     match kind {
-        BlockKind::GearIn => gear_of(machine, text),
+        BlockKind::GearIn | BlockKind::GearInPos => gear_of(machine, text),
         BlockKind::CamIn => cam_of(machine, text),
+        BlockKind::SetOverride | BlockKind::GroupSetOverride => ratio_of(text),
         _ => unused(text, NO_MASTER),
     }
 }
@@ -44,6 +45,22 @@ pub fn halves(text: &[u8]) -> Result<(&[u8], &[u8]), LineFault>
     }
 }
 
+// The numerator and the denominator of an override.
+#[tactic(auto, unfolding(crate::specs::reading::Inputs::ratio_of))]
+fn ratio_of(text: &[u8]) -> Result<Followed, LineFault>
+    ensures { Gives (λ f. f) (spec.ratio_of text.now) result }
+{
+    let (numerator, denominator) = halves(text)?;
+    let numerator = number(numerator)?;
+    let denominator = number(denominator)?;
+    Ok(Followed {
+        master: 0,
+        numerator,
+        denominator,
+        table: 0,
+    })
+}
+
 // The master of a gear, its numerator and its denominator.
 #[tactic(auto, unfolding(crate::specs::reading::Inputs::gear_of))]
 fn gear_of(machine: &Builder, text: &[u8]) -> Result<Followed, LineFault>
@@ -51,15 +68,8 @@ fn gear_of(machine: &Builder, text: &[u8]) -> Result<Followed, LineFault>
 {
     let (master, ratio) = halves(text)?;
     let master = axis_named(machine, NO_VALUE, master)?;
-    let (numerator, denominator) = halves(ratio)?;
-    let numerator = number(numerator)?;
-    let denominator = number(denominator)?;
-    Ok(Followed {
-        master,
-        numerator,
-        denominator,
-        table: 0,
-    })
+    let ratio = ratio_of(ratio)?;
+    Ok(Followed { master, ..ratio })
 }
 
 // The master of a cam and the number of its table.

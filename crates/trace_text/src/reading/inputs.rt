@@ -10,9 +10,11 @@ use crate::reading::follow::{follow_of, halves};
 use crate::reading::item::number;
 use crate::reading::positions::positions_of;
 use crate::reading::rule::{NO_VALUE, unused, value};
-use line_text::{LineFault, broken_unless, says};
+use line_text::LineFault;
 use motion_history::{BlockDef, Builder, TraceVersion};
-use plc_types::{BlockKind, BufferMode, Input, Inputs, mode_named, takes};
+use plc_types::{
+    BlockKind, BufferMode, Direction, Input, Inputs, direction_named, mode_named, takes, takes_in,
+};
 use std::alloc::Global;
 use trace_columns::flag_of;
 
@@ -36,10 +38,11 @@ pub struct Rates {
     pub jerk: i64,
 }
 
-/// The buffer mode of a call, and what its axis follows.
+/// The buffer mode of a call, its direction, and what its axis follows.
 #[derive(Clone, Copy)]
 pub struct Last {
     pub mode: BufferMode,
+    pub direction: Direction,
     pub followed: Followed,
 }
 
@@ -51,7 +54,7 @@ pub struct InputFields<'a> {
     pub positions: &'a [u8],
     /// Velocity, Acceleration, Deceleration and Jerk.
     pub rates: &'a [&'a [u8]],
-    /// BufferMode, and what the axis follows.
+    /// BufferMode with Direction, and what the axis follows.
     pub last: &'a [&'a [u8]],
 }
 
@@ -68,7 +71,7 @@ pub fn inputs_of(
         result }
 {
     let execute = value(flag_of(fields.execute))?;
-    let positions = positions_of(alloc, machine, block, fields.positions)?;
+    let positions = positions_of(alloc, version, machine, block, fields.positions)?;
     let rates = rates_of(block.kind, fields.rates)?;
     let last = last_of(version, machine, block.kind, fields.last)?;
     Ok(Inputs {
@@ -79,6 +82,7 @@ pub fn inputs_of(
         deceleration: rates.deceleration,
         jerk: rates.jerk,
         mode: last.mode,
+        direction: last.direction,
         master: last.followed.master,
         numerator: last.followed.numerator,
         denominator: last.followed.denominator,
@@ -86,7 +90,7 @@ pub fn inputs_of(
     })
 }
 
-// The buffer mode of a call, and what its axis follows.
+// The buffer mode of a call, its direction, and what its axis follows.
 #[tactic(auto, unfolding(crate::specs::reading::Inputs::last_of))]
 fn last_of(
     version: TraceVersion,
@@ -99,9 +103,13 @@ fn last_of(
     let [mode, follow] = fields else {
         return Err(LineFault::Rule(NO_VALUE));
     };
-    let mode = mode_of(version, kind, mode)?;
+    let (mode, direction) = mode_of(version, kind, mode)?;
     let followed = follow_of(machine, kind, follow)?;
-    Ok(Last { mode, followed })
+    Ok(Last {
+        mode,
+        direction,
+        followed,
+    })
 }
 
 // The velocity of a call, its acceleration, its deceleration and its jerk.
@@ -136,36 +144,54 @@ fn input_of(kind: BlockKind, input: Input, text: &[u8]) -> Result<i64, LineFault
     }
 }
 
-// The buffer mode of a call, where its kind takes it.
+// The buffer mode and the direction of a call, where its kind takes them.
 #[tactic(auto, unfolding(crate::specs::reading::Inputs::mode_of))]
-fn mode_of(version: TraceVersion, kind: BlockKind, text: &[u8]) -> Result<BufferMode, LineFault>
+fn mode_of(
+    version: TraceVersion,
+    kind: BlockKind,
+    text: &[u8],
+) -> Result<(BufferMode, Direction), LineFault>
     ensures { Gives (λ m. m) (spec.mode_of version kind text.now) result }
 {
     if takes(kind, Input::Mode) {
         taken_mode(version, kind, text)
     } else {
-        unused(text, BufferMode::Aborting)
+        unused(text, (BufferMode::Aborting, Direction::Shortest))
     }
 }
 
-// The buffer mode of a kind that takes it.
+// The buffer mode of a kind that takes it, and the direction where the version has it.
 #[tactic(auto, unfolding(crate::specs::reading::Inputs::mode_meaning))]
-fn taken_mode(version: TraceVersion, kind: BlockKind, text: &[u8]) -> Result<BufferMode, LineFault>
+fn taken_mode(
+    version: TraceVersion,
+    kind: BlockKind,
+    text: &[u8],
+) -> Result<(BufferMode, Direction), LineFault>
     ensures { Gives (λ m. m) (spec.mode_meaning version kind text.now) result }
 {
-    match (version, kind) {
-        (TraceVersion::Three, BlockKind::MoveAbsolute) => directed_mode(text),
-        _ => value(mode_named(text)),
+    if takes_in(version.number(), kind, Input::Direction) {
+        directed_mode(text)
+    } else {
+        undirected_mode(text)
     }
 }
 
-// The buffer mode of an absolute move in version 3, before its direction.
-#[tactic(auto, unfolding(crate::specs::reading::Inputs::mode_meaning, crate::specs::Words::shortest))]
-fn directed_mode(text: &[u8]) -> Result<BufferMode, LineFault>
-    ensures { Gives (λ m. m)
-        (spec.mode_meaning TraceVersion.Three BlockKind.MoveAbsolute text.now) result }
+// A buffer mode and a direction, with a colon between them.
+#[tactic(auto, unfolding(crate::specs::reading::Inputs::directed_of))]
+fn directed_mode(text: &[u8]) -> Result<(BufferMode, Direction), LineFault>
+    ensures { Gives (λ m. m) (spec.directed_of text.now) result }
 {
     let (mode, direction) = halves(text)?;
-    broken_unless(says(direction, b"shortest"), NO_VALUE)?;
-    value(mode_named(mode))
+    let mode = value(mode_named(mode))?;
+    let direction = value(direction_named(direction))?;
+    Ok((mode, direction))
+}
+
+// A buffer mode alone.
+#[tactic(auto, unfolding(crate::specs::reading::Inputs::undirected_of))]
+fn undirected_mode(text: &[u8]) -> Result<(BufferMode, Direction), LineFault>
+    ensures { Gives (λ m. m) (spec.undirected_of text.now) result }
+{
+    let mode = value(mode_named(text))?;
+    Ok((mode, Direction::Shortest))
 }

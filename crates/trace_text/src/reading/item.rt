@@ -8,19 +8,11 @@ ghost use Rattle.trace_text.specs.reading.Items as spec;
 
 use crate::reading::rule::{NO_VALUE, REFUSED, are_empty, refusal_of, value};
 use line_text::{LineFault, broken_unless, in_range};
-use machine_words::{axis_at, group_at, is_whole, object_at, task_at};
-use motion_history::{Builder, MOST_CYCLES, MOST_ENTRIES, TraceVersion};
+use machine_words::{axis_at, group_at, object_at, task_at};
+use motion_history::{AxisParameters, Builder, MOST_CYCLES, MOST_ENTRIES, TraceVersion};
 use plc_types::{BlockKind, Limits, is_name, kind_in};
 use std::alloc::{AllocError, Global};
 use trace_columns::{flag_of, number_of};
-
-/// Where an axis stands, in internal units, and whether it is ready.
-#[derive(Clone, Copy)]
-pub struct Placed {
-    pub inc: i64,
-    pub start: i64,
-    pub ready: bool,
-}
 
 /// The parts of a field, between semicolons.
 #[tactic(auto, unfolding(crate::specs::reading::Items::parts_of))]
@@ -81,8 +73,8 @@ fn place_axis(
 {
     broken_unless(is_name(name), NO_VALUE)?;
     let limits = limits_of(limits)?;
-    let placed = placed_of(version, behind)?;
-    match machine.axis(name, &limits, placed.inc, placed.start, placed.ready) {
+    let parameters = parameters_of(version, limits, behind)?;
+    match machine.axis(name, &parameters) {
         Ok(_) => Ok(()),
         Err(fault) => Err(refusal_of(fault)),
     }
@@ -110,10 +102,14 @@ fn limits_of(fields: &[&[u8]]) -> Result<Limits, LineFault>
     })
 }
 
-// Where an axis stands.
-#[tactic(auto, unfolding(crate::specs::reading::Items::placed_of))]
-fn placed_of(version: TraceVersion, fields: &[&[u8]]) -> Result<Placed, LineFault>
-    ensures { Gives (λ p. p) (spec.placed_of version (texts fields.now)) result }
+// What an axis with these limits is.
+#[tactic(auto, unfolding(crate::specs::reading::Items::parameters_of))]
+fn parameters_of(
+    version: TraceVersion,
+    limits: Limits,
+    fields: &[&[u8]],
+) -> Result<AxisParameters, LineFault>
+    ensures { Gives (λ p. p) (spec.parameters_of version limits (texts fields.now)) result }
 {
     let [inc, start, ready, behind @ ..] = fields else {
         return Err(LineFault::Rule(NO_VALUE));
@@ -121,26 +117,35 @@ fn placed_of(version: TraceVersion, fields: &[&[u8]]) -> Result<Placed, LineFaul
     let inc = number(inc)?;
     let start = number(start)?;
     let ready = value(flag_of(ready))?;
-    check_axis_end(version, behind)?;
-    Ok(Placed { inc, start, ready })
+    let (jmax, modulo) = axis_end_of(version, behind)?;
+    Ok(AxisParameters {
+        limits,
+        inc,
+        start,
+        ready,
+        jmax,
+        modulo,
+    })
 }
 
-// Refuses last fields of an axis that aren't its version's, and an axis that has a jerk limit or is
-// modulo.
-#[tactic(auto, unfolding(crate::specs::reading::Items::axis_end_meaning))]
-fn check_axis_end(version: TraceVersion, fields: &[&[u8]]) -> Result<(), LineFault>
-    ensures { Gives (λ u. u) (spec.axis_end_meaning version (texts fields.now)) result }
+// The last fields of an axis: its limit of jerk, and whether it turns for ever.
+#[tactic(auto, unfolding(crate::specs::reading::Items::axis_end_of))]
+fn axis_end_of(version: TraceVersion, fields: &[&[u8]]) -> Result<(i64, bool), LineFault>
+    ensures { Gives (λ p. p) (spec.axis_end_of version (texts fields.now)) result }
 {
     match version {
-        TraceVersion::One | TraceVersion::Two => broken_unless(are_empty(fields), NO_VALUE),
+        TraceVersion::One | TraceVersion::Two => {
+            broken_unless(are_empty(fields), NO_VALUE)?;
+            Ok((0, false))
+        }
         TraceVersion::Three => {
-            let [jerk, modulo, unused @ ..] = fields else {
+            let [jmax, modulo, unused @ ..] = fields else {
                 return Err(LineFault::Rule(NO_VALUE));
             };
-            let jerk = number(jerk)?;
+            let jmax = number(jmax)?;
             let modulo = value(flag_of(modulo))?;
             broken_unless(are_empty(unused), NO_VALUE)?;
-            broken_unless(jerk == 0 && !modulo, REFUSED)
+            Ok((jmax, modulo))
         }
     }
 }
@@ -195,6 +200,19 @@ pub fn add_block(
     let Some(object) = object_at(machine, kind, object) else {
         return Err(LineFault::Rule(REFUSED));
     };
+    put_block(machine, name, task, kind, object)
+}
+
+// Adds a block of these parts.
+fn put_block(
+    machine: &mut Builder,
+    name: &[u8],
+    task: u8,
+    kind: BlockKind,
+    object: u8,
+) -> Result<(), LineFault>
+    ensures { Takes (spec.block_added machine.old name.now task kind object) machine.new result }
+{
     match machine.block(name, task, kind, object) {
         Ok(_) => Ok(()),
         Err(fault) => Err(refusal_of(fault)),
@@ -220,9 +238,12 @@ pub fn set_room(machine: &mut Builder, fields: &[&[u8]]) -> Result<(), LineFault
     }
 }
 
-/// Refuses a machine that has no axis, no task or no block.
+/// Refuses a machine that has no axis, no task or no block, or asks for what isn't built.
 pub fn whole(machine: &Builder) -> Result<(), LineFault>
     ensures { Gives (λ u. u) (spec.whole machine.now) result }
 {
-    broken_unless(is_whole(machine), REFUSED)
+    match machine.whole_fault() {
+        None => Ok(()),
+        Some(fault) => Err(refusal_of(fault)),
+    }
 }

@@ -39,7 +39,7 @@ impl TraceReader {
         ensures { Takes (spec.fields_meaning self.old Kind.Table (texts fields.now))
             self.new result }
     {
-        add_table(self.alloc, &mut self.machine, fields)?;
+        add_table(self.alloc, &mut self.machine, self.version, fields)?;
         self.last = Kind::Table;
         Ok(())
     }

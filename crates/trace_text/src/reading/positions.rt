@@ -11,23 +11,24 @@ ghost use Rattle.trace_text.specs.reading.Rules as rules;
 use crate::reading::item::{number, parts_of};
 use crate::reading::rule::{NO_VALUE, is_empty};
 use line_text::{LineFault, broken_unless};
-use machine_words::{axes_of, positions_from};
-use motion_history::{BlockDef, Builder, MOST_MEMBERS};
-use plc_types::{Input, takes};
+use machine_words::{positions_for, positions_from};
+use motion_history::{BlockDef, Builder, MOST_MEMBERS, TraceVersion};
+use plc_types::{Input, takes_in};
 use std::alloc::Global;
 
-/// The positions of a call, where its kind takes them.
+/// The positions of a call, where its kind takes them in this version.
 #[tactic(auto, unfolding(crate::specs::reading::Inputs::positions_of))]
 pub fn positions_of(
     alloc: Global,
+    version: TraceVersion,
     machine: &Builder,
     block: &BlockDef,
     text: &[u8],
 ) -> Result<[i64; MOST_MEMBERS], LineFault>
-    ensures { Gives (λ p. p) (spec.positions_of machine.now block.now text.now) result }
+    ensures { Gives (λ p. p) (spec.positions_of version machine.now block.now text.now) result }
 {
-    if takes(block.kind, Input::Position) {
-        joined_positions(alloc, axes_of(machine, block), text)
+    if takes_in(version.number(), block.kind, Input::Position) {
+        joined_positions(alloc, positions_for(machine, block), text)
     } else {
         no_positions(text)
     }
@@ -45,17 +46,17 @@ fn no_positions(text: &[u8]) -> Result<[i64; MOST_MEMBERS], LineFault>
 #[tactic(auto, unfolding(crate::specs::reading::Inputs::joined_positions))]
 fn joined_positions(
     alloc: Global,
-    axes: usize,
+    count: usize,
     text: &[u8],
 ) -> Result<[i64; MOST_MEMBERS], LineFault>
-    requires { axes ≤ MOST_MEMBERS }
-    ensures { Gives (λ p. p) (spec.joined_positions axes text.now) result }
+    requires { count ≤ MOST_MEMBERS }
+    ensures { Gives (λ p. p) (spec.joined_positions count text.now) result }
 {
     let Ok(parts) = parts_of(alloc, text) else {
         return Err(LineFault::OutOfMemory);
     };
     let places = numbers(alloc, parts.as_slice())?;
-    broken_unless(places.len() == axes, NO_VALUE)?;
+    broken_unless(places.len() == count, NO_VALUE)?;
     Ok(positions_from(places.as_slice()))
 }
 

@@ -32,7 +32,7 @@ use std::alloc::Global;
 use trace_columns::{field, next_record, open_records};
 
 /// The trace that a text is. A text that is none is refused at its first record that breaks a rule,
-/// counted from 1, by the first rule that it breaks: T1 to T6. It takes memory for one record at a
+/// counted from 1, by the first rule that it breaks: T1 to T7. It takes memory for one record at a
 /// time, besides the trace.
 pub fn read_trace(alloc: Global, text: &[u8]) -> Result<Trace, TextFault>
     ensures reading { ReadsBy (spec.trace_of text.now) result }

@@ -28,6 +28,9 @@ pub const REFUSED: u8 = 5;
 /// The text ends too early.
 pub const TOO_SHORT: u8 = 6;
 
+/// The machine asks for what isn't built yet.
+pub const NOT_BUILT: u8 = 7;
+
 /// The rules that the points of a cam table break.
 pub const ITEM_RULES: ItemRules = ItemRules {
     wrong: REFUSED,
@@ -41,13 +44,14 @@ pub fn value<T: Copy>(found: Option<T>) -> Result<T, LineFault>
     required(found, NO_VALUE)
 }
 
-/// Why a record is refused whose item has this fault.
+/// Why a record is refused whose item has this fault, or after which the machine has it.
 pub fn refusal_of(fault: ConfigFault) -> LineFault
     ensures memory { fault ≡ OutOfMemory → result ≡ LineFault.OutOfMemory }
     ensures rule { fault ≢ OutOfMemory → result ≡ LineFault.Rule (spec.rule_of fault) }
 {
     match fault {
         ConfigFault::OutOfMemory => LineFault::OutOfMemory,
+        ConfigFault::NotBuilt => LineFault::Rule(NOT_BUILT),
         _ => LineFault::Rule(REFUSED),
     }
 }

@@ -7,8 +7,8 @@ ghost use Rattle.trace_text.specs.writing.Between.{IsBetween};
 ghost use Rattle.trace_text.specs.Records.{block_call_fields, call_fields, record_text};
 
 use crate::records::write_record;
-use crate::writing::fields::{mode_text, number_text, taken_text};
-use crate::writing::parts::{follow_text, positions_text};
+use crate::writing::fields::{number_text, taken_text};
+use crate::writing::parts::{follow_text, mode_text, positions_text};
 use csv::Writer;
 use itoa::Buffer;
 use motion_history::{BlockDef, Config, OutOfMemory, TraceVersion};
@@ -58,7 +58,8 @@ fn write_call_of<W: Write + Drop>(
 {
     let name = block.name;
     let kind = block.kind;
-    let positions = positions_text(alloc, config, block, inputs)?;
+    let positions = positions_text(alloc, version, config, block, inputs)?;
+    let mode = mode_text(alloc, version, kind, inputs)?;
     let follow = follow_text(alloc, config, kind, inputs)?;
     let outputs = outputs_text(alloc, reply)?;
     let mut velocity = Buffer::new();
@@ -87,10 +88,7 @@ fn write_call_of<W: Write + Drop>(
                 inputs.deceleration,
             ),
             number_text(kind, Input::Jerk, &mut jerk, inputs.jerk),
-            taken_text(
-                takes(kind, Input::Mode),
-                mode_text(version, kind, inputs.mode).as_bytes(),
-            ),
+            taken_text(takes(kind, Input::Mode), mode.as_slice()),
             follow.as_slice(),
             outputs.as_slice(),
             error.format(reply.error_id).as_bytes(),

@@ -6,8 +6,8 @@ ghost use Rattle.trace_text.specs.Records as records;
 
 use crate::command::Command;
 use itoa::Buffer;
-use motion_history::TraceVersion;
-use plc_types::{BlockKind, BufferMode, Input, mode_name, takes};
+use motion_history::{Sort, TraceVersion};
+use plc_types::{BlockKind, Input, takes};
 
 /// The version of a trace.
 #[tactic(auto, unfolding(crate::specs::Words::version_text))]
@@ -32,29 +32,15 @@ pub fn command_text(command: Command) -> &'static str
     }
 }
 
-/// The buffer mode of a kind; in version 3 an absolute move has its direction after a colon.
-#[tactic(auto, unfolding(crate::specs::Records::mode_text))]
-pub fn mode_text(version: TraceVersion, kind: BlockKind, mode: BufferMode) -> &'static str
-    ensures { result.now ≡ records.mode_text version kind mode }
+/// The sort of a cam table: nothing for a plain one.
+#[tactic(auto, unfolding(crate::specs::Words::sort_text))]
+pub fn sort_text(sort: Sort) -> &'static str
+    ensures { result.now ≡ spec.sort_text sort }
 {
-    match (version, kind) {
-        (TraceVersion::Three, BlockKind::MoveAbsolute) => directed_text(mode),
-        _ => mode_name(mode),
-    }
-}
-
-// The buffer mode of an absolute move in version 3, with its direction.
-#[tactic(auto, unfolding(crate::specs::Records::mode_text, crate::specs::Words::shortest, plc_types::specs::KindNames::mode_name))]
-fn directed_text(mode: BufferMode) -> &'static str
-    ensures { result.now ≡ records.mode_text TraceVersion.Three BlockKind.MoveAbsolute mode }
-{
-    match mode {
-        BufferMode::Aborting => "aborting:shortest",
-        BufferMode::Buffered => "buffered:shortest",
-        BufferMode::BlendingLow => "blendingLow:shortest",
-        BufferMode::BlendingPrevious => "blendingPrevious:shortest",
-        BufferMode::BlendingNext => "blendingNext:shortest",
-        BufferMode::BlendingHigh => "blendingHigh:shortest",
+    match sort {
+        Sort::Plain => "",
+        Sort::Once => "once",
+        Sort::Periodic => "periodic",
     }
 }
 

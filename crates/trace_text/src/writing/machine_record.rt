@@ -9,7 +9,7 @@ ghost use Rattle.trace_text.specs.Records.{record_text};
 
 use crate::command::Command;
 use crate::records::{object_name, task_name, write_record, write_whole};
-use crate::writing::fields::{command_text, version_text};
+use crate::writing::fields::{command_text, sort_text, version_text};
 use crate::writing::parts::{members_text, points_text};
 use cam_table::CamTable;
 use csv::Writer;
@@ -146,7 +146,7 @@ fn write_axis_two<W: Write + Drop>(wtr: &mut Writer<W>, axis: &AxisDef) -> Resul
     )
 }
 
-// An axis in version 3, without a jerk limit and not modulo.
+// An axis in version 3, with its limit of jerk and whether it turns for ever.
 #[tactic(auto, unfolding(crate::specs::Records::record_text))]
 fn write_axis_three<W: Write + Drop>(wtr: &mut Writer<W>, axis: &AxisDef) -> Result<(), OutOfMemory>
     requires { IsBetween wtr.old }
@@ -163,7 +163,7 @@ fn write_axis_three<W: Write + Drop>(wtr: &mut Writer<W>, axis: &AxisDef) -> Res
     let mut dmax = Buffer::new();
     let mut inc = Buffer::new();
     let mut start = Buffer::new();
-    let mut jerk = Buffer::new();
+    let mut jmax = Buffer::new();
     write_whole(
         wtr,
         &[
@@ -177,8 +177,8 @@ fn write_axis_three<W: Write + Drop>(wtr: &mut Writer<W>, axis: &AxisDef) -> Res
             inc.format(axis.inc).as_bytes(),
             start.format(axis.start).as_bytes(),
             flag_text(axis.ready).as_bytes(),
-            jerk.format(0_i64).as_bytes(),
-            flag_text(false).as_bytes(),
+            jmax.format(axis.jmax).as_bytes(),
+            flag_text(axis.modulo).as_bytes(),
         ],
     )
 }
@@ -214,7 +214,8 @@ pub fn write_table<W: Write + Drop>(
     ensures between { OnOk result (IsBetween wtr.new) }
 {
     let points = points_text(alloc, table.points())?;
-    write_record(wtr, &[b"table", points.as_slice()])
+    let sort = sort_text(table.sort());
+    write_record(wtr, &[b"table", points.as_slice(), sort.as_bytes()])
 }
 
 /// A task.

@@ -3,12 +3,16 @@
 ghost use Rattle.std.specs.Prelude.{◌≡◌, ◌≤◌, ◌==◌, ◌++◌, ◌∷◌, [], if◌then◌else◌, IfOk, OnOk, map, take};
 ghost use Rattle.std.specs.List.{join_with_byte};
 ghost use Rattle.std.specs.Fmt.{signed_decimal};
+ghost use Rattle.machine_words.specs.Inputs as words;
 ghost use Rattle.motion_history.specs.Calls as calls;
+ghost use Rattle.plc_types.specs.KindNames.{direction_name, mode_name};
 ghost use Rattle.trace_text.specs.Records as spec;
 
 use itoa::Buffer;
-use motion_history::{BlockDef, Config, GroupDef, MOST_MEMBERS, axis_name, name_text};
-use plc_types::{BlockKind, Input, Inputs, takes};
+use motion_history::{
+    BlockDef, Config, GroupDef, MOST_MEMBERS, TraceVersion, axis_name, name_text,
+};
+use plc_types::{BlockKind, Input, Inputs, direction_name, mode_name, position_count, takes_in};
 use std::alloc::{AllocError, Global};
 
 // Puts a part after this many others, with a semicolon between.
@@ -89,38 +93,75 @@ pub fn points_text(alloc: Global, points: &[(i64, i64)]) -> Result<Vec<u8>, Allo
 }
 
 // On how many axes a block acts.
-fn axes_of(config: &Config, block: &BlockDef) -> usize
+fn axes_of(config: &Config, block: &BlockDef) -> u8
     ensures { result ≡ calls.axes_of config.now block.now }
 {
     if !block.kind.acts_on_group() {
         return 1;
     }
     match config.groups().get(block.object as usize) {
-        Some(group) => group.count as usize,
+        Some(group) => group.count,
         None => 0,
     }
 }
 
-/// The positions of a call, one for each axis of its block, joined by semicolons.
+// How many positions a call of a block has, where its kind takes them.
+fn positions_for(config: &Config, block: &BlockDef) -> usize
+    ensures { result ≡ words.positions_for config.now block.now }
+{
+    position_count(block.kind, axes_of(config, block)) as usize
+}
+
+/// The positions of a call, as many as its block takes where the version has them, joined by
+/// semicolons.
 #[tactic(auto, unfolding(crate::specs::Records::positions_text, crate::specs::Records::taken_text))]
 pub fn positions_text(
     alloc: Global,
+    version: TraceVersion,
     config: &Config,
     block: &BlockDef,
     inputs: &Inputs,
 ) -> Result<Vec<u8>, AllocError>
     ensures { IfOk result (λ v. v.items ≡
-        spec.positions_text config.now block.now inputs.now.positions) }
+        spec.positions_text version config.now block.now inputs.now.positions) }
 {
-    if !takes(block.kind, Input::Position) {
+    if !takes_in(version.number(), block.kind, Input::Position) {
         return Ok(Vec::new(alloc));
     }
-    let axes = axes_of(config, block).min(MOST_MEMBERS);
-    numbers_text(alloc, &inputs.positions[..axes])
+    let count = positions_for(config, block).min(MOST_MEMBERS);
+    numbers_text(alloc, &inputs.positions[..count])
 }
 
-/// What an axis follows: its master with the gear's numerator and denominator, or with the number
-/// of the cam table.
+/// The buffer mode of a call, with its direction after a colon where the version has one.
+#[tactic(auto, unfolding(crate::specs::Records::mode_text))]
+pub fn mode_text(
+    alloc: Global,
+    version: TraceVersion,
+    kind: BlockKind,
+    inputs: &Inputs,
+) -> Result<Vec<u8>, AllocError>
+    ensures { IfOk result (λ v. v.items ≡ spec.mode_text version kind inputs.now) }
+{
+    if takes_in(version.number(), kind, Input::Direction) {
+        directed_text(alloc, inputs)
+    } else {
+        Vec::from_slice(alloc, mode_name(inputs.mode).as_bytes())
+    }
+}
+
+// The buffer mode of a call and its direction, with a colon between them.
+fn directed_text(alloc: Global, inputs: &Inputs) -> Result<Vec<u8>, AllocError>
+    ensures { IfOk result (λ v. v.items ≡
+        mode_name inputs.now.mode ++ (58 ∷ direction_name inputs.now.direction)) }
+{
+    let mut text = Vec::from_slice(alloc, mode_name(inputs.mode).as_bytes())?;
+    text.push(b':')?;
+    text.extend_from_slice(direction_name(inputs.direction).as_bytes())?;
+    Ok(text)
+}
+
+/// What an axis follows: its master with the gear's ratio or with the number of the cam table; and
+/// the ratio of an override.
 #[tactic(auto, unfolding(crate::specs::Records::follow_text))]
 pub fn follow_text(
     alloc: Global,
@@ -131,10 +172,21 @@ pub fn follow_text(
     ensures { IfOk result (λ v. v.items ≡ spec.follow_text config.now kind inputs.now) }
 {
     match kind {
-        BlockKind::GearIn => gear_text(alloc, config, inputs),
+        BlockKind::GearIn | BlockKind::GearInPos => gear_text(alloc, config, inputs),
         BlockKind::CamIn => cam_text(alloc, config, inputs),
+        BlockKind::SetOverride | BlockKind::GroupSetOverride => ratio_text(alloc, inputs),
         _ => Ok(Vec::new(alloc)),
     }
+}
+
+// The numerator and the denominator of a ratio, joined by a colon.
+fn ratio_text(alloc: Global, inputs: &Inputs) -> Result<Vec<u8>, AllocError>
+    ensures { IfOk result (λ v. v.items ≡ spec.ratio_text inputs.now) }
+{
+    let mut digits = Buffer::new();
+    let mut text = Vec::from_slice(alloc, digits.format(inputs.numerator).as_bytes())?;
+    push_number(&mut text, inputs.denominator)?;
+    Ok(text)
 }
 
 // The master of a gear, its numerator and its denominator.
