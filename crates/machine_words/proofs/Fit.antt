@@ -1,16 +1,16 @@
 -- Inputs that are read fit their block.
--- for: inputs_are_fit
+-- for: inputs_are_fit, crates above
 use Rattle.std.proofs.Common.{◌≡◌, ℕ, zero, suc, ◌<◌, ◌≤◌, ℤ, Bool, true, false, Option, Some, None, Ok, List, [], ◌∷◌, length, refl, subst, sym, arith, inl, inr, lit≤}
 use Rattle.std.specs.Prelude.{pos, codes, ◌||◌, slice_index_or}
 use Rattle.std.specs.List.{list_all}
 use Rattle.std.specs.Ordering.{int_eq}
-use Rattle.std.proofs.lemmas.Bool.{and_parts, cases_Bool}
+use Rattle.std.proofs.lemmas.Bool.{and_from, and_parts, cases_Bool}
 use Rattle.std.proofs.lemmas.Bool.Decides.{Decides-int_eq}
 use Rattle.plc_types.specs.declared.kind.BufferMode.{BufferMode}
 use Rattle.plc_types.specs.declared.kind.BufferMode.TheVariants.{Aborting}
 use Rattle.plc_types.specs.declared.kind.Direction.{Direction}
 use Rattle.plc_types.specs.declared.kind.Direction.TheVariants.{Shortest}
-use Rattle.plc_types.specs.Inputs.{inputs_off, may_give, takes}
+use Rattle.plc_types.specs.Inputs.{AreInputs, inputs_off, may_give, takes}
 use Rattle.plc_types.specs.declared.kind.BlockKind.{BlockKind}
 use Rattle.plc_types.specs.declared.inputs.Input.TheVariants as input
 use Rattle.plc_types.specs.declared.inputs.Input.TheVariants.{Position, Velocity, Acceleration, Deceleration, Jerk, Numerator, Denominator}
@@ -62,17 +62,33 @@ shortest-is : (d : Direction) → is_shortest d ≡ true → d ≡ Shortest
 shortest-is Shortest h = refl
 shortest-is _ h = absurd (cc)
 
-built-positions : (k : BlockKind) (i : Inputs) → are_built k i ≡ true → may_give k Position ≡ false → (n : ℕ) → slice_index_or i.positions n (pos 0) ≡ pos 0
+pub built-positions : (k : BlockKind) (i : Inputs) → are_built k i ≡ true → may_give k Position ≡ false → (n : ℕ) → slice_index_or i.positions n (pos 0) ≡ pos 0
 unfolding are_built
 built-positions k i h none n =
     let parts = and_parts (may_give k Position || list_all (λ z. int_eq z (pos 0)) i.positions) (may_give k input.Direction || is_shortest i.direction) h in
     all-zero i.positions n (or-second (may_give k Position) _ parts.0 none)
 
-built-direction : (k : BlockKind) (i : Inputs) → are_built k i ≡ true → may_give k input.Direction ≡ false → i.direction ≡ Shortest
+pub built-direction : (k : BlockKind) (i : Inputs) → are_built k i ≡ true → may_give k input.Direction ≡ false → i.direction ≡ Shortest
 unfolding are_built
 built-direction k i h none =
     let parts = and_parts (may_give k Position || list_all (λ z. int_eq z (pos 0)) i.positions) (may_give k input.Direction || is_shortest i.direction) h in
     shortest-is i.direction (or-second (may_give k input.Direction) _ parts.1 none)
+
+-- and what has its default is built
+zeros-all : (ps : List ℤ) → ((n : ℕ) → slice_index_or ps n (pos 0) ≡ pos 0) → list_all (λ z. int_eq z (pos 0)) ps ≡ true
+zeros-all [] h = refl
+zeros-all (z ∷ zs) h = and_from (int_eq z (pos 0)) (list_all (λ y. int_eq y (pos 0)) zs) ((Decides-int_eq z (pos 0)).1 (h 0)) (zeros-all zs (λ n. h (suc n)))
+
+or-from : (a b : Bool) → (a ≡ false → b ≡ true) → (a || b) ≡ true
+or-from true b h = refl
+or-from false b h = h refl
+
+pub are-built : (k : BlockKind) (axes : ℕ) (i : Inputs) → AreInputs k axes i → are_built k i ≡ true
+unfolding are_built
+are-built k axes i is =
+    and_from (may_give k Position || list_all (λ z. int_eq z (pos 0)) i.positions) (may_give k input.Direction || is_shortest i.direction)
+    (or-from (may_give k Position) _ (λ none. zeros-all i.positions (λ n. (is.positions n).left_out none)))
+    (or-from (may_give k input.Direction) _ (λ none. rw (is.direction none) refl))
 
 -- the inputs with these values fit their block
 abbrev inputs_with : List ℤ → ℤ → ℤ → ℤ → ℤ → BufferMode → Direction → ℕ → ℤ → ℤ → ℕ → Inputs

@@ -185,9 +185,9 @@ fn direction_or_shortest(text: Option<&[u8]>) -> Result<Direction, LineFault>
     }
 }
 
-// Whether inputs ask for nothing that isn't built yet.
+/// Whether inputs ask for nothing that isn't built yet.
 #[tactic(auto, unfolding(crate::specs::Inputs::are_built))]
-fn are_built(kind: BlockKind, inputs: &Inputs) -> bool
+pub fn are_built(kind: BlockKind, inputs: &Inputs) -> bool
     ensures { result ≡ spec.are_built kind inputs.now }
 {
     (may_give(kind, Input::Position) || are_zero(&inputs.positions))

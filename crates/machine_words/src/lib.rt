@@ -19,7 +19,7 @@ mod table;
 mod units;
 
 pub use drive::{MOST_STEPS, drive_in, plain_drive};
-pub use inputs::{Callee, inputs_by, is_off};
+pub use inputs::{Callee, are_built, inputs_by, is_off};
 pub use integer::{number, numbers};
 pub use item::{add_task, free_name, whole};
 pub use known_blocks::KnownBlocks;

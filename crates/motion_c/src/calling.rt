@@ -108,7 +108,8 @@ fn struct_inputs(config: &Config, block: u16, given: &MotionInputs) -> Option<In
 
 // On how many axes a block acts.
 fn axes_of(config: &Config, block: &BlockDef) -> usize
-    ensures { result ≡ calls.axes_of config.now block.now }
+    ensures value { result ≡ calls.axes_of config.now block.now }
+    ensures few { result ≤ 255 }
 {
     if !block.kind.acts_on_group() {
         return 1;

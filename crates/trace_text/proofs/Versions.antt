@@ -1,9 +1,9 @@
 -- The version in which a machine's trace is written can hold the machine.
 -- for: trace_version, crates above
-use Rattle.std.specs.Prelude.{◌≡◌, refl, ℕ, ◌≤◌, Bool, true, false, ◌&&◌, not, nat_le, pos, if◌then◌else◌, List, [], ◌∷◌}
+use Rattle.std.specs.Prelude.{◌≡◌, refl, ℕ, ◌≤◌, Bool, true, false, ◌&&◌, ◌||◌, not, nat_le, pos, if◌then◌else◌, List, [], ◌∷◌}
 use Rattle.std.proofs.Common.{arith, inl, inr}
 use Rattle.std.specs.Ordering.{int_eq}
-use Rattle.std.proofs.lemmas.Bool.{and_from, cases_Bool, false_from_ne_true, leb-false, leb-true}
+use Rattle.std.proofs.lemmas.Bool.{and_from, cases_Bool, false_from_ne_true, leb-false, leb-true, not-true}
 use Rattle.std.specs.List.{list_all}
 use Rattle.plc_types.specs.KindNames.{first_version}
 use Rattle.plc_types.specs.declared.kind.BlockKind.{BlockKind}
@@ -12,7 +12,7 @@ use Rattle.cam_table.specs.CamTable.{Cam}
 use Rattle.cam_table.specs.declared.table.Sort.{Sort}
 use Rattle.cam_table.specs.declared.table.Sort.TheVariants.{Plain, Once, Periodic}
 use Rattle.plc_types.proofs.EveryKind.{every-kind}
-use Rattle.plc_types.specs.Inputs.{AreInputs, input_version, takes, takes_in}
+use Rattle.plc_types.specs.Inputs.{AreInputs, input_version, may_give, takes, takes_in}
 use Rattle.plc_types.specs.declared.inputs.Input.{Input}
 use Rattle.plc_types.specs.declared.inputs.Input.TheVariants as input
 use Rattle.plc_types.specs.declared.inputs.Inputs.{Inputs}
@@ -112,21 +112,26 @@ version-later v s = elim (cases_Bool (has_machine v s)) [
   | inr fails ↦ rw fails (most-three v)
 ]
 
--- version 3 has all inputs
-has-position : (k : BlockKind) → nat_le (input_version k input.Position) 3 ≡ true
-has-position = every-kind (λ k. nat_le (input_version k input.Position) 3) refl
+-- what a call may give, each version has
+gives-position : (v : TraceVersion) (k : BlockKind) → takes_in (number_of v) k input.Position ≡ false → may_give k input.Position ≡ false
+gives-position v k none = given (takes_in (number_of v) k input.Position) (may_give k input.Position) none (all v)
+  where
+    given : (a b : Bool) → a ≡ false → (a || not b) ≡ true → b ≡ false
+    given false false e h = refl
+    given false true e h = absurd (cc h)
+    given true b e h = absurd (cc e)
 
-has-direction : (k : BlockKind) → nat_le (input_version k input.Direction) 3 ≡ true
-has-direction = every-kind (λ k. nat_le (input_version k input.Direction) 3) refl
+    all : (v : TraceVersion) → (takes_in (number_of v) k input.Position || not (may_give k input.Position)) ≡ true
+    all One = every-kind (λ x. takes_in 1 x input.Position || not (may_give x input.Position)) refl k
+    all Two = every-kind (λ x. takes_in 2 x input.Position || not (may_give x input.Position)) refl k
+    all Three = every-kind (λ x. takes_in 3 x input.Position || not (may_give x input.Position)) refl k
 
-lacks-none : (a b : Bool) → b ≡ true → (a && b) ≡ false → a ≡ false
-lacks-none false b e h = refl
-lacks-none true true e h = absurd (cc h)
-lacks-none true false e h = absurd (cc e)
+pub gives-no-direction : (k : BlockKind) → may_give k input.Direction ≡ false
+gives-no-direction k = not-true (may_give k input.Direction) (every-kind (λ x. not (may_give x input.Direction)) refl k)
 
--- so a call of a machine is one of version 3
-pub three-inputs : (k : BlockKind) (axes : ℕ) (i : Inputs) → AreInputs k axes i → IsOfVersion Three k i
-three-inputs k axes i is = record {
-  positions = λ none n. (is.positions n).left_out (lacks-none (takes k input.Position) _ (has-position k) none);
-  direction = λ none. is.direction (lacks-none (takes k input.Direction) _ (has-direction k) none);
+-- so a call of a machine gives nothing that only a later version has
+pub of-each-version : (v : TraceVersion) (k : BlockKind) (axes : ℕ) (i : Inputs) → AreInputs k axes i → IsOfVersion v k i
+of-each-version v k axes i is = record {
+  positions = λ none n. (is.positions n).left_out (gives-position v k none);
+  direction = λ none. is.direction (gives-no-direction k);
 }

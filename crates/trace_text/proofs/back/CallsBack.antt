@@ -24,6 +24,8 @@ use Rattle.plc_types.specs.declared.inputs.Inputs.{Inputs}
 use Rattle.plc_types.specs.declared.outputs.Outputs.{Outputs}
 use Rattle.line_text.specs.Reading.{each_of}
 use Rattle.machine_words.specs.Inputs.{positions_for}
+use Rattle.machine_words.proofs.Fit.{are-built}
+use Rattle.trace_text.proofs.Versions.{gives-no-direction}
 use Rattle.machine_words.specs.Names.{axis_at, axis_named, block_at, task_at}
 use Rattle.machine_words.specs.Positions.{no_positions, positions_from}
 use Rattle.motion_history.specs.Calls.{axes_of}
@@ -37,7 +39,7 @@ use Rattle.motion_history.specs.declared.sizes.TheConstants.{MOST_MEMBERS}
 use Rattle.motion_numbers.specs.declared.TheConstants.{MOST_NUMBER}
 use Rattle.trace_columns.specs.Fields.{flag_text, outputs_text}
 use Rattle.trace_text.specs.reading.Events.{call_by, call_meaning, end_meaning, reply_of}
-use Rattle.trace_text.specs.reading.Inputs.{cam_of, directed_of, follow_of, gear_of, halves, input_of, inputs_of, joined_positions, last_of, mode_meaning, mode_of, no_master, positions_of, rates_of, ratio_of, undirected_of}
+use Rattle.trace_text.specs.reading.Inputs.{cam_of, directed_of, follow_of, gear_of, halves, input_of, inputs_of, stated_inputs, joined_positions, last_of, mode_meaning, mode_of, no_master, positions_of, rates_of, ratio_of, undirected_of}
 use Rattle.trace_text.specs.reading.Rules.{are_empty, unused}
 use Rattle.trace_text.specs.reading.Items.{number, parts_of}
 use Rattle.trace_text.specs.Records.{axis_name, block_call_fields, call_fields, call_fields_of, end_fields, follow_text, mode_text, number_text, padded, positions_text, ratio_text, taken_text}
@@ -194,19 +196,10 @@ mode-by g false directed mode direction is none of =
     let d = none refl in
     λ i. Ok (sym m i, sym d i)
 
--- a kind without a mode has no direction
-no-mode : (k : BlockKind) → takes k Mode ≡ false → takes k input.Direction ≡ false
-no-mode k none = first (takes k Mode) (takes k input.Direction) none (every-kind (λ x. takes x Mode || not (takes x input.Direction)) refl k)
-  where
-    first : (a b : Bool) → a ≡ false → (a || not b) ≡ true → b ≡ false
-    first a false e h = refl
-    first true true e h = absurd (cc e)
-    first false true e h = absurd (cc h)
-
 mode-told : Given → (v : TraceVersion) (k : BlockKind) (axes : ℕ) (i : Inputs) → AreInputs k axes i → IsOfVersion v k i → mode_of v k (taken_text (takes k Mode) (mode_text v k i)) ≡ Ok (i.mode, i.direction)
 unfolding mode_of mode_meaning mode_text
 mode-told g v k axes i is of =
-    mode-by g (takes k Mode) (takes_in (number_of v) k input.Direction) i.mode i.direction is.mode (λ none. is.direction (no-mode k none)) of.direction
+    mode-by g (takes k Mode) (takes_in (number_of v) k input.Direction) i.mode i.direction is.mode (λ none. is.direction (gives-no-direction k)) of.direction
 
 -- ---- what an axis follows
 
@@ -272,6 +265,24 @@ last-back g v s m kind axes i is of l t =
 
 -- ---- a whole call
 
+stated-back : Given → (v : TraceVersion) (s : Setup) → IsMachine s → (k : ℕ) (b : BlockDef) → slice_get s.blocks k ≡ Some b → (i : Inputs) (o : Outputs) → IsWritableCall v s k i o →
+    stated_inputs v s b (record {
+      execute = flag_text i.execute;
+      positions = positions_text v s b i.positions;
+      rates = number_text b.kind Velocity i.velocity ∷ number_text b.kind Acceleration i.acceleration ∷ number_text b.kind Deceleration i.deceleration ∷ number_text b.kind Jerk i.jerk ∷ [];
+      last = taken_text (takes b.kind Mode) (mode_text v b.kind i) ∷ follow_text s b.kind i ∷ [];
+    }) ≡ Ok i
+unfolding stated_inputs
+stated-back g v s m k b at i o w =
+    let is = w.call.inputs b at in
+    let of = w.version b at in
+    rw (
+      g.back.flags i.execute,
+      positions-back g v s m k b at i is of w.positions,
+      rates-back g b.kind (axes_of s b) i is,
+      last-back g v s m b.kind (axes_of s b) i is of w.call.master w.table,
+    ) refl
+
 inputs-back : Given → (v : TraceVersion) (s : Setup) → IsMachine s → (k : ℕ) (b : BlockDef) → slice_get s.blocks k ≡ Some b → (i : Inputs) (o : Outputs) → IsWritableCall v s k i o →
     inputs_of v s b (record {
       execute = flag_text i.execute;
@@ -281,14 +292,7 @@ inputs-back : Given → (v : TraceVersion) (s : Setup) → IsMachine s → (k : 
     }) ≡ Ok i
 unfolding inputs_of
 inputs-back g v s m k b at i o w =
-    let is = w.call.inputs b at in
-    let of = w.version b at in
-    rw (
-      g.back.flags i.execute,
-      positions-back g v s m k b at i is of w.positions,
-      rates-back g b.kind (axes_of s b) i is,
-      last-back g v s m b.kind (axes_of s b) i is of w.call.master w.table,
-    ) refl
+    rw (stated-back g v s m k b at i o w, are-built b.kind (axes_of s b) i (w.call.inputs b at)) refl
 
 reply-back : Given → (o : Outputs) → o.error_id < 2 ^ 16 → reply_of (outputs_text o ∷ decimal o.error_id ∷ []) ≡ Ok o
 unfolding reply_of

@@ -22,7 +22,7 @@ use Rattle.plc_types.specs.declared.inputs.Inputs.{Inputs}
 use Rattle.plc_types.specs.declared.outputs.Outputs.{Outputs}
 use Rattle.line_text.specs.Reading.{each_of}
 use Rattle.line_text.specs.Rules.{broken_unless}
-use Rattle.machine_words.specs.Inputs.{positions_for}
+use Rattle.machine_words.specs.Inputs.{are_built, positions_for}
 use Rattle.machine_words.specs.Names.{axis_at, axis_named, block_at, task_at}
 use Rattle.machine_words.specs.Positions.{no_positions, positions_from}
 use Rattle.motion_history.specs.Calls.{axes_of, count_in}
@@ -35,7 +35,7 @@ use Rattle.motion_history.specs.declared.sizes.TheConstants.{MOST_MEMBERS}
 use Rattle.motion_numbers.specs.declared.TheConstants.{MOST_NUMBER}
 use Rattle.trace_columns.specs.Columns.{flag_of, outputs_of, size_limited_of, unsigned_of}
 use Rattle.trace_text.specs.reading.Events.{call_by, call_meaning, end_meaning, reply_of}
-use Rattle.trace_text.specs.reading.Inputs.{cam_of, follow_of, gear_of, halves, input_of, inputs_of, joined_positions, last_of, mode_meaning, mode_of, no_master, positions_of, rates_of, ratio_of, undirected_of}
+use Rattle.trace_text.specs.reading.Inputs.{cam_of, follow_of, gear_of, halves, input_of, inputs_of, joined_positions, last_of, mode_meaning, mode_of, no_master, positions_of, rates_of, ratio_of, stated_inputs, undirected_of}
 use Rattle.trace_text.specs.reading.Rules.{are_empty, is_empty, unused, value}
 use Rattle.trace_text.specs.reading.InputFields.{InputTexts}
 use Rattle.trace_text.specs.reading.Items.{number, parts_of}
@@ -46,9 +46,10 @@ use Rattle.trace_text.specs.declared.reading.inputs.Last.{Last}
 use Rattle.trace_text.specs.declared.reading.inputs.Rates.{Rates}
 use Rattle.trace_text.specs.declared.found.FoundEntry.{FoundEntry}
 use Rattle.trace_text.specs.declared.found.FoundEntry.TheVariants as found
-use Rattle.trace_text.specs.reading.RuleNumbers.{no_value}
+use Rattle.trace_text.specs.reading.RuleNumbers.{no_value, not_built}
 use Rattle.line_text.proofs.Results as results
 use Rattle.line_text.proofs.Results.{bind_ok, holds, ok_is}
+use Rattle.machine_words.proofs.Fit.{built-direction, built-positions}
 use Rattle.machine_words.proofs.Names.{axis-within, block-within, task-within}
 use Rattle.machine_words.proofs.Smalls.{each-small}
 use Rattle.machine_words.proofs.Zeros.{IsSmall, small-at, zero-behind, zeros-at}
@@ -113,10 +114,6 @@ direction-left v k text m h fails = elim (cases_Bool (takes k Mode)) [
       let is : (Aborting, Shortest) ≡ m = unused-is text (Aborting, Shortest) m e in
       ap (λ (x : BufferMode × Direction). x.1) (sym is)
 ]
-
--- what a kind doesn't take, it takes in no version
-in-none : (n : ℕ) (k : BlockKind) (i : Input) → takes k i ≡ false → takes_in n k i ≡ false
-in-none n k i none = rw none refl
 
 -- ---- positions
 
@@ -340,9 +337,9 @@ record AreFit (v : TraceVersion) (s : Setup) (b : BlockDef) (i : Inputs) : Type 
   long : length i.positions ≡ MOST_MEMBERS
   word : i.table < 2 ^ 16
 
-inputs-fit : (v : TraceVersion) (s : Setup) (b : BlockDef) (fields : InputTexts) (i : Inputs) → 1 ≤ length s.axes → HasArrays s → inputs_of v s b fields ≡ Ok i → AreFit v s b i
-unfolding inputs_of
-inputs-fit v s b fields i some arrays h =
+stated-fit : (v : TraceVersion) (s : Setup) (b : BlockDef) (fields : InputTexts) (i : Inputs) → 1 ≤ length s.axes → HasArrays s → stated_inputs v s b fields ≡ Ok i → are_built b.kind i ≡ true → AreFit v s b i
+unfolding stated_inputs
+stated-fit v s b fields i some arrays h built =
     let e = bind_ok (value (flag_of fields.execute)) _ i h in
     let p = bind_ok (positions_of v s b fields.positions) _ i e.2 in
     let r = bind_ok (rates_of b.kind fields.rates) _ i p.2 in
@@ -365,16 +362,17 @@ inputs-fit v s b fields i some arrays h =
     let positions = positions-are v s b fields.positions p.0 arrays p.1 in
     let rates = rates-are b.kind fields.rates r.0 r.1 in
     let last = last-is v s b.kind fields.last l.0 some l.1 in
+    let made : are_built b.kind x ≡ true = subst (λ y. are_built b.kind y ≡ true) (sym is) built in
     subst (λ y. AreFit v s b y) is (record {
       inputs = record {
-        positions = λ n. let each = positions.each n in record { left_out = λ none. each.left_out (in-none (number_of v) b.kind Position none); size = each.size };
+        positions = λ n. record { left_out = λ none. built-positions b.kind x made none n; size = (positions.each n).size };
         few_positions = positions.few;
         velocity = rates.velocity;
         acceleration = rates.acceleration;
         deceleration = rates.deceleration;
         jerk = rates.jerk;
         mode = last.mode;
-        direction = λ none. last.direction (in-none (number_of v) b.kind taken.Direction none);
+        direction = built-direction b.kind x made;
         master = last.followed.master;
         numerator = last.followed.numerator;
         denominator = last.followed.denominator;
@@ -385,6 +383,14 @@ inputs-fit v s b fields i some arrays h =
       long = positions.long;
       word = last.followed.word;
     })
+
+inputs-fit : (v : TraceVersion) (s : Setup) (b : BlockDef) (fields : InputTexts) (i : Inputs) → 1 ≤ length s.axes → HasArrays s → inputs_of v s b fields ≡ Ok i → AreFit v s b i
+unfolding inputs_of
+inputs-fit v s b fields i some arrays h =
+    let stated = bind_ok (stated_inputs v s b fields) _ i h in
+    let built = bind_ok (broken_unless (are_built b.kind stated.0) not_built) _ i stated.2 in
+    subst (λ y. AreFit v s b y) (ok_is (Ok stated.0) stated.0 i refl built.2)
+    (stated-fit v s b fields stated.0 some arrays stated.1 (holds (are_built b.kind stated.0) not_built built.0 built.1))
 
 reply-word : (fields : List (List ℕ)) (o : Outputs) → reply_of fields ≡ Ok o → o.error_id < 2 ^ 16
 unfolding reply_of

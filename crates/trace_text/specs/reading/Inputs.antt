@@ -14,7 +14,7 @@ use Rattle.plc_types.specs.declared.inputs.Input.TheVariants.{Position, Velocity
 use Rattle.plc_types.specs.declared.inputs.Inputs.{Inputs}
 use Rattle.line_text.specs.Reading.{◌>>=◌, each_of}
 use Rattle.line_text.specs.Rules.{broken_unless}
-use Rattle.machine_words.specs.Inputs.{positions_for}
+use Rattle.machine_words.specs.Inputs.{are_built, positions_for}
 use Rattle.machine_words.specs.Names.{axis_named}
 use Rattle.machine_words.specs.Positions.{no_positions, positions_from}
 use Rattle.motion_history.specs.Setup.{Setup}
@@ -28,7 +28,7 @@ use Rattle.trace_text.specs.declared.reading.inputs.Followed.{Followed}
 use Rattle.trace_text.specs.declared.reading.inputs.Rates.{Rates}
 use Rattle.trace_text.specs.declared.reading.inputs.Last.{Last}
 use Rattle.trace_text.specs.reading.InputFields.{InputTexts}
-use Rattle.trace_text.specs.reading.RuleNumbers.{no_value}
+use Rattle.trace_text.specs.reading.RuleNumbers.{no_value, not_built}
 
 -- this many positions, joined by semicolons, and 0 after them
 unfoldable pub joined_positions : ℕ → List ℕ → Result (List ℤ) ℕ
@@ -131,9 +131,9 @@ last_of v s k (mode ∷ follow ∷ []) = do
   Ok (record { mode = m.0; direction = m.1; followed = f })
 last_of v s k _ = Err no_value
 
--- the inputs of a call
-unfoldable pub inputs_of : TraceVersion → Setup → BlockDef → InputTexts → Result Inputs ℕ
-inputs_of v s b fields = do
+-- the inputs of a call as its fields state them
+unfoldable pub stated_inputs : TraceVersion → Setup → BlockDef → InputTexts → Result Inputs ℕ
+stated_inputs v s b fields = do
   e ← value (flag_of fields.execute)
   p ← positions_of v s b fields.positions
   r ← rates_of b.kind fields.rates
@@ -152,3 +152,10 @@ inputs_of v s b fields = do
     denominator = l.followed.denominator;
     table = l.followed.table;
   })
+
+-- the inputs of a call; those that ask for what isn't built yet break a rule of their own
+unfoldable pub inputs_of : TraceVersion → Setup → BlockDef → InputTexts → Result Inputs ℕ
+inputs_of v s b fields = do
+  i ← stated_inputs v s b fields
+  _ ← broken_unless (are_built b.kind i) not_built
+  Ok i

@@ -9,8 +9,9 @@ ghost use Rattle.trace_text.specs.reading.Inputs as spec;
 use crate::reading::follow::{follow_of, halves};
 use crate::reading::item::number;
 use crate::reading::positions::positions_of;
-use crate::reading::rule::{NO_VALUE, unused, value};
-use line_text::LineFault;
+use crate::reading::rule::{NO_VALUE, NOT_BUILT, unused, value};
+use line_text::{LineFault, broken_unless};
+use machine_words::are_built;
 use motion_history::{BlockDef, Builder, TraceVersion};
 use plc_types::{
     BlockKind, BufferMode, Direction, Input, Inputs, direction_named, mode_named, takes, takes_in,
@@ -58,7 +59,7 @@ pub struct InputFields<'a> {
     pub last: &'a [&'a [u8]],
 }
 
-/// The inputs of a call.
+/// The inputs of a call; those that ask for what isn't built yet break a rule of their own.
 #[tactic(auto, unfolding(crate::specs::reading::Inputs::inputs_of))]
 pub fn inputs_of(
     alloc: Global,
@@ -68,6 +69,24 @@ pub fn inputs_of(
     fields: &InputFields<'_>,
 ) -> Result<Inputs, LineFault>
     ensures { Gives (λ i. i) (spec.inputs_of version machine.now block.now (fields_of fields.now))
+        result }
+{
+    let inputs = stated_inputs(alloc, version, machine, block, fields)?;
+    broken_unless(are_built(block.kind, &inputs), NOT_BUILT)?;
+    Ok(inputs)
+}
+
+// The inputs of a call as its fields state them.
+#[tactic(auto, unfolding(crate::specs::reading::Inputs::stated_inputs))]
+fn stated_inputs(
+    alloc: Global,
+    version: TraceVersion,
+    machine: &Builder,
+    block: &BlockDef,
+    fields: &InputFields<'_>,
+) -> Result<Inputs, LineFault>
+    ensures { Gives (λ i. i) (spec.stated_inputs version machine.now block.now
+        (fields_of fields.now))
         result }
 {
     let execute = value(flag_of(fields.execute))?;
