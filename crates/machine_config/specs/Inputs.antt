@@ -33,4 +33,6 @@ input_meaning m table = do
   _ ← broken_unless (is_name (text_at Name table)) wrong_name
   _ ← broken_unless (is_apart m (text_at Name table)) wrong_name
   changes ← changes_of table
-  Ok (record m { inputs = m.inputs ++ record { name = text_at Name table; changes = changes } ∷ [] })
+  Ok (record m {
+    inputs = m.inputs ++ record { name = text_at Name table; changes = changes } ∷ [];
+  })

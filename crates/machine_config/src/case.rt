@@ -10,8 +10,8 @@ use crate::machine::Machine;
 use motion_history::{Builder, GroupDef, TraceVersion};
 use plc_types::{AxisDef, Name};
 
-/// Whether a machine takes an axis, a group or an input of this name, by the case of its letters: one
-/// of version 3 has no two names that differ in it alone.
+/// Whether a machine takes an axis, a group or an input of this name, by the case of its letters:
+/// one of version 3 has no two names that differ in it alone.
 #[tactic(auto, unfolding(crate::specs::Cases::is_apart))]
 pub fn is_apart(machine: &Machine, name: &[u8]) -> bool
     ensures { result ≡ spec.is_apart machine.now name.now }

@@ -14,6 +14,6 @@ pub struct Machine {
     pub cycle_us: u32,
     /// The drive of each axis, in the order of the axes.
     pub drives: DriveDefs,
-    /// The inputs that programs in Structured Text read, in their order. Other programs ignore them.
+    /// The inputs that programs in Structured Text read, in their order.
     pub inputs: InputDefs,
 }
