@@ -20,7 +20,7 @@ use Rattle.machine_config.specs.Configured.{AddsItem, Configures, GivesTop, Give
 use Rattle.machine_config.specs.Keys.{has_keys, top_keys, value_at}
 use Rattle.machine_config.specs.Marks.{crowded_line}
 use Rattle.machine_config.specs.Reading.{Reads, at_place, document_of, document_reading, item_meaning, items_meaning, items_of, machine_of, marks_reading, refused_at, top_reading}
-use Rattle.machine_config.specs.Tops.{are_counted, bare_setup, top_meaning, version_in, version_of}
+use Rattle.machine_config.specs.Tops.{are_counted, bare_setup, is_dated, top_meaning, version_in, version_of}
 use Rattle.machine_config.specs.Values.{integer_at, integer_in}
 use Rattle.machine_config.specs.declared.item.ItemKind.{ItemKind}
 use Rattle.machine_config.specs.declared.item.ItemKind.TheVariants as kind
@@ -29,12 +29,12 @@ use Rattle.machine_config.specs.declared.machine.Machine.{Machine}
 use Rattle.machine_config.specs.RuleNumbers.{crowded, no_toml, out_of_range, wrong_count, wrong_key}
 use Rattle.line_text.proofs.Results.{bind_ok, found, holds, ok_is}
 use Rattle.machine_words.proofs.Tables.{AreTold}
-use Rattle.machine_config.proofs.Items.{axis-read, axis-told, group-read, group-told, table-read, table-told}
+use Rattle.machine_config.proofs.Items.{axis-read, axis-told, group-read, group-told, input-read, input-told, table-read, table-told}
 use Rattle.machine_config.proofs.Told.{AreSpelled, range-read, range-told}
 
 -- the machine before its items
 abbrev pub bare : TraceVersion → ℕ → ℕ → ℕ → Machine
-bare version cycle_us cycles entries = record { config = bare_setup cycles entries; version = version; cycle_us = cycle_us; drives = [] }
+bare version cycle_us cycles entries = record { config = bare_setup cycles entries; version = version; cycle_us = cycle_us; drives = []; inputs = [] }
 
 -- a place that breaks no rule
 place-ok : {A : Type 0} (r : Result A ℕ) (place : ℕ) (x : A) → at_place place r ≡ Ok x → r ≡ Ok x
@@ -48,12 +48,14 @@ unfolding item_meaning
 item-told spelled told m kind.Axis t n h = axis-told spelled m t n h
 item-told spelled told m kind.Group t n h = group-told m t n h
 item-told spelled told m kind.Table t n h = table-told spelled told m t n h
+item-told spelled told m kind.Input t n h = input-told m t n h
 
 item-read : AreSpelled → AreTold → (m : Machine) (k : ItemKind) (t : Members) (n : Machine) → AddsItem m k t n → item_meaning m k t ≡ Ok n
 unfolding item_meaning
 item-read spelled told m kind.Axis t n adds = axis-read spelled m t n adds
 item-read spelled told m kind.Group t n adds = group-read m t n adds
 item-read spelled told m kind.Table t n adds = table-read spelled told m t n adds
+item-read spelled told m kind.Input t n adds = input-read m t n adds
 
 items-told : AreSpelled → AreTold → (i : ℕ) (m n : Machine) (xs : List (ItemKind × Members)) → items_meaning i m xs ≡ Ok n → ItemsLead m xs n
 items-told spelled told i m n [] h = let e : m ≡ n = cc in sym e
@@ -90,7 +92,7 @@ version-read (Some d) v g = rw g.0 (ap (λ w. Ok w) (sym g.1))
 top-told : (top : Members) (m : Machine) → top_meaning top ≡ Ok m → GivesBare top m
 unfolding top_meaning version_of
 top-told top m h =
-    let keys = bind_ok (broken_unless (has_keys top_keys top) wrong_key) _ m h in
+    let keys = bind_ok (broken_unless (has_keys (top_keys (is_dated top)) top) wrong_key) _ m h in
     let version = bind_ok (version_of top) _ m keys.2 in
     let cycle_us = bind_ok (in_range 100 100000 out_of_range (integer_at CycleUs top)) _ m version.2 in
     let cycles = bind_ok (in_range 1 200000 out_of_range (integer_at Cycles top)) _ m cycle_us.2 in

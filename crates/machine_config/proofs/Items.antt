@@ -10,6 +10,7 @@ use Rattle.cam_table.specs.CamTable.{is_cam_table}
 use Rattle.cam_table.specs.declared.table.Sort.{Sort}
 use Rattle.cam_table.specs.declared.table.Sort.TheVariants as camsort
 use Rattle.fixed_units.specs.PerCycle.{per_cycle_of, per_cycle_squared_of}
+use Rattle.plc_types.specs.Names.{is_name}
 use Rattle.plc_types.specs.declared.limits.Limits.{Limits}
 use Rattle.line_text.specs.Reading.{each_of}
 use Rattle.line_text.specs.Rules.{broken_unless, in_range}
@@ -26,15 +27,16 @@ use Rattle.motion_history.specs.declared.drives.DriveDef.{DriveDef}
 use Rattle.toml.specs.Data.{Data, Members}
 use Rattle.machine_config.specs.Cases.{is_apart}
 use Rattle.machine_config.specs.Axes.{axis_meaning, limits_of, parameters_of}
-use Rattle.machine_config.specs.Configured.{AddsAxis, AddsGroup, AddsTable, GivesAxis, GivesDrive, GivesLimits, IsPoint, IsSort, IsStep}
+use Rattle.machine_config.specs.Configured.{AddsAxis, AddsGroup, AddsInput, AddsTable, GivesAxis, GivesDrive, GivesLimits, HasChanges, IsCycleCount, IsPoint, IsSort, IsStep}
 use Rattle.machine_config.specs.Drives.{drive_of}
 use Rattle.machine_config.specs.Groups.{group_meaning}
-use Rattle.machine_config.specs.Keys.{axis_keys, group_keys, has_keys, table_keys, value_at}
+use Rattle.machine_config.specs.Inputs.{are_rising, changes_of, input_meaning}
+use Rattle.machine_config.specs.Keys.{axis_keys, group_keys, has_keys, input_keys, table_keys, value_at}
 use Rattle.machine_config.specs.Quantities.{point_of, quantity_at, quantity_or}
 use Rattle.machine_config.specs.Rules.{rule_of}
 use Rattle.machine_config.specs.Tables.{sort_in, sort_named, sort_of, sort_word, table_meaning}
 use Rattle.machine_config.specs.Values.{flag_at, integer_at, integers_at, text_at, text_in, texts_at}
-use Rattle.machine_config.specs.declared.key.Key.TheVariants.{Amax, Axes, Dmax, Faults, Hi, Increment, Jmax, Lag, Lo, Modulo, Name, Points, Ready, Start, Vmax}
+use Rattle.machine_config.specs.declared.key.Key.TheVariants.{Amax, Axes, Changes, Dmax, Faults, Hi, Increment, Jmax, Lag, Lo, Modulo, Name, Points, Ready, Start, Vmax}
 use Rattle.machine_config.specs.declared.key.Key.TheVariants as key
 use Rattle.machine_config.specs.declared.table.TheConstants.{SORTS}
 use Rattle.machine_config.specs.declared.machine.Machine.{Machine}
@@ -280,3 +282,46 @@ table-read spelled told m t n adds =
       not_full (length m.config.tables) adds.room,
       adds.added,
     ) refl
+
+-- ---- inputs
+
+changes-told : (t : Members) (cs : List ℕ) → changes_of t ≡ Ok cs → HasChanges t cs
+unfolding changes_of
+changes-told t cs h =
+    let read = bind_ok (each_of (in_range 0 200000 out_of_range) (integers_at Changes t)) _ cs h in
+    let rising = bind_ok (broken_unless (are_rising read.0) out_of_range) _ cs read.2 in
+    let few = bind_ok (broken_unless (nat_le (length read.0) 1000) wrong_count) _ cs rising.2 in
+    let is : read.0 ≡ cs = ok_is (Ok read.0) read.0 cs refl few.2 in
+    subst (λ xs. HasChanges t xs) is (record {
+      read = each-told (in_range 0 200000 out_of_range) IsCycleCount (λ z n r. let p = range-told 0 200000 out_of_range z n r in record { is = p.is; most = p.below })
+          (integers_at Changes t) read.0 read.1;
+      rising = holds _ out_of_range rising.0 rising.1;
+      few = leb-true _ _ (holds _ wrong_count few.0 few.1);
+    })
+
+changes-read : (t : Members) (cs : List ℕ) → HasChanges t cs → changes_of t ≡ Ok cs
+unfolding changes_of
+changes-read t cs g =
+    let read = each-read (in_range 0 200000 out_of_range) IsCycleCount (λ z n s. range-read 0 200000 out_of_range z n (record { is = s.is; above = omega arith; below = s.most }))
+    (integers_at Changes t) cs g.read in
+    rw (read, g.rising, le-leb _ _ g.few) refl
+
+pub input-told : (m : Machine) (t : Members) (n : Machine) → input_meaning m t ≡ Ok n → AddsInput m t n
+unfolding input_meaning
+input-told m t n h =
+    let keys = bind_ok (broken_unless (has_keys input_keys t) wrong_key) _ n h in
+    let named = bind_ok (broken_unless (is_name (text_at Name t)) wrong_name) _ n keys.2 in
+    let apart = bind_ok (broken_unless (is_apart m (text_at Name t)) wrong_name) _ n named.2 in
+    let changes = bind_ok (changes_of t) _ n apart.2 in
+    record {
+      changes = changes.0;
+      keys = holds _ wrong_key keys.0 keys.1;
+      named = holds _ wrong_name named.0 named.1;
+      apart = holds _ wrong_name apart.0 apart.1;
+      has = changes-told t changes.0 changes.1;
+      added = sym (ok_is (Ok _) _ n refl changes.2);
+    }
+
+pub input-read : (m : Machine) (t : Members) (n : Machine) → AddsInput m t n → input_meaning m t ≡ Ok n
+unfolding input_meaning
+input-read m t n adds = rw (adds.keys, adds.named, adds.apart, changes-read t adds.changes adds.has, adds.added) refl

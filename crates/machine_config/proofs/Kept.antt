@@ -13,7 +13,7 @@ use Rattle.machine_config.specs.declared.machine.Machine.{Machine}
 -- one axis more, and its drive
 pub axis-kept : (m : Machine) (config : Setup) (drives : List DriveDef) (axis : AxisDef) (drive : DriveDef) → IsUnderWay m → IsDrive drive →
     config ≡ record m.config { axes = m.config.axes ++ axis ∷ [] } → drives ≡ m.drives ++ drive ∷ [] →
-    IsUnderWay (record { config = config; version = m.version; cycle_us = m.cycle_us; drives = drives })
+    IsUnderWay (record { config = config; version = m.version; cycle_us = m.cycle_us; drives = drives; inputs = m.inputs })
 axis-kept m config drives axis drive k is e f = record {
   version = k.version;
   shortest = k.shortest;

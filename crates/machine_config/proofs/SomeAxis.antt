@@ -1,6 +1,6 @@
 -- A machine that a text configures has an axis.
 -- for: read_config
-use Rattle.std.proofs.Common.{◌≡◌, ℕ, ◌+◌, ◌≤◌, true, false, Option, Some, None, Result, Ok, Err, List, [], ◌∷◌, ◌++◌, length, refl, ap, subst, ◌∙◌, arith}
+use Rattle.std.proofs.Common.{◌≡◌, ℕ, ◌+◌, ◌≤◌, Bool, true, false, Option, Some, None, Result, Ok, Err, List, [], ◌∷◌, ◌++◌, length, refl, ap, subst, ◌∙◌, arith}
 use Rattle.std.specs.Prelude.{◌&&◌, IfOk, is_some, nat_le}
 use Rattle.std.specs.List.{filter_map, list_all}
 use Rattle.std.specs.Option.{option_map_or}
@@ -13,11 +13,12 @@ use Rattle.machine_config.specs.Configured.{AddsItem, Configures, ItemsLead}
 use Rattle.machine_config.specs.Keys.{data_in, has_keys, has_known, is_form, is_given, top_keys, value_at}
 use Rattle.machine_config.specs.Machines.{IsMachine, IsUnderWay}
 use Rattle.machine_config.specs.Reading.{items_of, of_kind}
-use Rattle.machine_config.specs.Tops.{are_counted, count_at}
+use Rattle.machine_config.specs.Tops.{are_counted, count_at, is_dated}
 use Rattle.machine_config.specs.Values.{tables_at, text_at, values_at, values_in}
 use Rattle.machine_config.specs.declared.item.ItemKind.{ItemKind}
 use Rattle.machine_config.specs.declared.item.ItemKind.TheVariants as kind
 use Rattle.machine_config.specs.declared.key.Form.TheVariants as form
+use Rattle.machine_config.specs.declared.key.Key.{Key}
 use Rattle.machine_config.specs.declared.key.Key.TheVariants as key
 use Rattle.machine_config.specs.declared.key.Sort.TheVariants as sort
 use Rattle.machine_config.specs.declared.machine.Machine.{Machine}
@@ -31,6 +32,7 @@ item-keeps : (m : Machine) (k : ItemKind) (t : Members) (n : Machine) → AddsIt
 item-keeps m kind.Axis t n adds = let e = axis-adds m t n adds in omega (arith, e)
 item-keeps m kind.Group t n adds = let e = ap (λ (k : Machine). length k.config.axes) adds.added in omega (arith, e)
 item-keeps m kind.Table t n adds = let e = ap (λ (k : Machine). length k.config.axes) adds.added in omega (arith, e)
+item-keeps m kind.Input t n adds = let e = ap (λ (k : Machine). length k.config.axes) adds.added in omega (arith, e)
 
 items-keep : (m n : Machine) (xs : List (ItemKind × Members)) → ItemsLead m xs n → length m.config.axes ≤ length n.config.axes
 items-keep m n [] leads = let e = ap (λ (k : Machine). length k.config.axes) leads in omega (arith, e)
@@ -67,15 +69,24 @@ given_first (Some (boolean b)) given some = absurd (cc)
 given_first (Some (datetime dt)) given some = absurd (cc)
 given_first (Some (table ms)) given some = absurd (cc)
 
-axis_given : (top : Members) → has_keys top_keys top ≡ true → is_given top key.Axis ≡ true
+-- the axes stand among the keys that each version has
+among_first : (top : Members) (ks : List Key) → list_all (is_given top) (key.Version ∷ key.CycleUs ∷ key.Cycles ∷ key.Entries ∷ key.Axis ∷ ks) ≡ true → is_given top key.Axis ≡ true
+among_first top ks given =
+    let dated = (and_parts (is_given top key.Version) (list_all (is_given top) (key.CycleUs ∷ key.Cycles ∷ key.Entries ∷ key.Axis ∷ ks)) given).1 in
+    let behind = (and_parts (is_given top key.CycleUs) (list_all (is_given top) (key.Cycles ∷ key.Entries ∷ key.Axis ∷ ks)) dated).1 in
+    let further = (and_parts (is_given top key.Cycles) (list_all (is_given top) (key.Entries ∷ key.Axis ∷ ks)) behind).1 in
+    let last = (and_parts (is_given top key.Entries) (list_all (is_given top) (key.Axis ∷ ks)) further).1 in
+    (and_parts (is_given top key.Axis) (list_all (is_given top) ks) last).0
+
+axis_among : (top : Members) (dated : Bool) → list_all (is_given top) (top_keys dated) ≡ true → is_given top key.Axis ≡ true
+axis_among top false given = among_first top (key.Group ∷ key.Table ∷ []) given
+axis_among top true given = among_first top (key.Group ∷ key.Table ∷ key.Input ∷ []) given
+
+axis_given : (top : Members) → has_keys (top_keys (is_dated top)) top ≡ true → is_given top key.Axis ≡ true
 unfolding has_keys
 axis_given top h =
-    let given = (and_parts (list_all (is_given top) top_keys) (has_known top_keys top) h).0 in
-    let dated = (and_parts (is_given top key.Version) (list_all (is_given top) (key.CycleUs ∷ key.Cycles ∷ key.Entries ∷ key.Axis ∷ key.Group ∷ key.Table ∷ [])) given).1 in
-    let behind = (and_parts (is_given top key.CycleUs) (list_all (is_given top) (key.Cycles ∷ key.Entries ∷ key.Axis ∷ key.Group ∷ key.Table ∷ [])) dated).1 in
-    let further = (and_parts (is_given top key.Cycles) (list_all (is_given top) (key.Entries ∷ key.Axis ∷ key.Group ∷ key.Table ∷ [])) behind).1 in
-    let last = (and_parts (is_given top key.Entries) (list_all (is_given top) (key.Axis ∷ key.Group ∷ key.Table ∷ [])) further).1 in
-    (and_parts (is_given top key.Axis) (list_all (is_given top) (key.Group ∷ key.Table ∷ [])) last).0
+    let keys = top_keys (is_dated top) in
+    axis_among top (is_dated top) (and_parts (list_all (is_given top) keys) (has_known keys top) h).0
 
 some_counted : (top : Members) → are_counted top ≡ true → 1 ≤ length (values_at key.Axis top)
 unfolding are_counted
@@ -83,17 +94,20 @@ some_counted top h =
     let some = nat_le 1 (count_at key.Axis top) in
     let few = nat_le (count_at key.Axis top) 16 in
     let groups = nat_le (count_at key.Group top) 4 in
-    let both = (and_parts (some && few && groups) (nat_le (count_at key.Table top) 16) h).0 in
+    let tables = nat_le (count_at key.Table top) 16 in
+    let each = (and_parts (some && few && groups && tables) (nat_le (count_at key.Input top) 64) h).0 in
+    let both = (and_parts (some && few && groups) tables each).0 in
     leb-true 1 _ (and_parts some few (and_parts (some && few) groups both).0).0
 
-axes_first : (top : Members) → has_keys top_keys top ≡ true → are_counted top ≡ true → HasFirst (tables_at key.Axis top)
+axes_first : (top : Members) → has_keys (top_keys (is_dated top)) top ≡ true → are_counted top ≡ true → HasFirst (tables_at key.Axis top)
 unfolding is_given values_at
 axes_first top keys counted = given_first (value_at key.Axis top) (axis_given top keys) (some_counted top counted)
 
 leads-some : (top : Members) (m n : Machine) → HasFirst (tables_at key.Axis top) → ItemsLead m (items_of top) n → 1 ≤ length n.config.axes
 unfolding items_of
 leads-some top m n f leads =
-    let others = of_kind kind.Group (tables_at key.Group top) ++ of_kind kind.Table (tables_at key.Table top) in
+    let last = of_kind kind.Table (tables_at key.Table top) ++ of_kind kind.Input (tables_at key.Input top) in
+    let others = of_kind kind.Group (tables_at key.Group top) ++ last in
     let (u, one, more) = subst (λ ts. ItemsLead m (of_kind kind.Axis ts ++ others) n) f.are leads in
     let a = axis-adds m f.first u one in
     let b = items-keep u n (of_kind kind.Axis f.others ++ others) more in

@@ -40,8 +40,9 @@ limits_of cycle_us table = do
   })
 
 -- what an axis is besides its name, in a cycle of this many microseconds: its limits, its increment
--- and its start in internal units, and from a change of acceleration per second the change per
--- cycle, none where it is left out
+-- and its start in internal units, and from a rate per second cubed the greatest change of its
+-- acceleration per cycle, none where it is left out. One that would be rounded to 0 is 1, which is
+-- in no axis's range
 unfoldable pub parameters_of : ℕ → Members → Result AxisParameters ℕ
 parameters_of cycle_us table = do
   limits ← limits_of cycle_us table

@@ -8,6 +8,7 @@ use Rattle.motion_history.specs.Setup.{Setup}
 use Rattle.motion_history.specs.declared.config.GroupDef.{GroupDef}
 use Rattle.motion_history.specs.declared.refused.TraceVersion.{TraceVersion}
 use Rattle.motion_history.specs.declared.refused.TraceVersion.TheVariants.{One, Two, Three}
+use Rattle.machine_config.specs.declared.inputs.InputDef.{InputDef}
 use Rattle.machine_config.specs.declared.machine.Machine.{Machine}
 
 -- whether names are the same in any case from a version on
@@ -22,6 +23,11 @@ is_taken s name =
     list_any (λ (d : AxisDef). str_eq_ignore_ascii_case d.name name) s.axes ||
     list_any (λ (d : GroupDef). str_eq_ignore_ascii_case d.name name) s.groups
 
--- whether a machine takes an axis or a group of this name, by the case of its letters
+-- whether an input has this name in some case of letters
+abbrev pub is_input : List InputDef → List ℕ → Bool
+is_input inputs name = list_any (λ d. str_eq_ignore_ascii_case d.name name) inputs
+
+-- whether a machine takes an axis, a group or an input of this name, by the case of its letters
 unfoldable pub is_apart : Machine → List ℕ → Bool
-is_apart m name = not (is_caseless m.version && is_taken m.config name)
+is_apart m name =
+    not (is_caseless m.version && (is_taken m.config name || is_input m.inputs name))

@@ -19,19 +19,21 @@ use Rattle.motion_history.specs.declared.axes.AxisParameters.{AxisParameters}
 use Rattle.motion_history.specs.declared.drives.DriveDef.{DriveDef}
 use Rattle.motion_history.specs.declared.refused.TraceVersion.{TraceVersion}
 use Rattle.motion_history.specs.declared.refused.TraceVersion.TheVariants as version
+use Rattle.plc_types.specs.Names.{is_name}
 use Rattle.toml.specs.Data.{Data, integer, string, Members}
 use Rattle.toml.specs.Parse.{parse_document}
 use Rattle.machine_config.specs.Axes.{axis_of, with_axis}
 use Rattle.machine_config.specs.Cases.{is_apart}
+use Rattle.machine_config.specs.Inputs.{are_rising}
 use Rattle.machine_config.specs.Marks.{crowded_line}
-use Rattle.machine_config.specs.Keys.{axis_keys, group_keys, has_keys, table_keys, top_keys, value_at}
+use Rattle.machine_config.specs.Keys.{axis_keys, group_keys, has_keys, input_keys, table_keys, top_keys, value_at}
 use Rattle.machine_config.specs.Reading.{items_of}
 use Rattle.machine_config.specs.Tables.{sort_word}
-use Rattle.machine_config.specs.Tops.{are_counted, bare_setup}
+use Rattle.machine_config.specs.Tops.{are_counted, bare_setup, is_dated}
 use Rattle.machine_config.specs.Values.{flag_at, integer_at, integer_in, integers_at, text_at, text_in, texts_at}
 use Rattle.machine_config.specs.declared.item.ItemKind.{ItemKind}
 use Rattle.machine_config.specs.declared.item.ItemKind.TheVariants as kind
-use Rattle.machine_config.specs.declared.key.Key.TheVariants.{Amax, Axes, Cycles, CycleUs, Dmax, Entries, Faults, Hi, Increment, Jmax, Lag, Lo, Modulo, Name, Points, Ready, Start, Version, Vmax}
+use Rattle.machine_config.specs.declared.key.Key.TheVariants.{Amax, Axes, Changes, Cycles, CycleUs, Dmax, Entries, Faults, Hi, Increment, Jmax, Lag, Lo, Modulo, Name, Points, Ready, Start, Version, Vmax}
 use Rattle.machine_config.specs.declared.key.Key.TheVariants as key
 use Rattle.machine_config.specs.declared.machine.Machine.{Machine}
 
@@ -77,7 +79,8 @@ pub record GivesLimits (cycle_us : ℕ) (table : Members) (l : Limits) : Type 0 
   pub speeds_up : l.amax ≡ per_cycle_squared_of acceleration cycle_us
   pub slows_down : l.dmax ≡ per_cycle_squared_of deceleration cycle_us
 
--- a table gives an axis this besides its name. Without a change of acceleration it has none
+-- a table gives an axis this besides its name: 0 for the greatest change of its acceleration where
+-- none is given
 pub record GivesAxis (cycle_us : ℕ) (table : Members) (p : AxisParameters) : Type 0 where
   pub jerk : ℤ
   pub limits : GivesLimits cycle_us table p.limits
@@ -151,11 +154,34 @@ pub record AddsTable (m : Machine) (table : Members) (n : Machine) : Type 0 wher
     };
   }
 
+-- an integer is a number of cycles
+pub record IsCycleCount (z : ℤ) (cycles : ℕ) : Type 0 where
+  pub is : z ≡ pos cycles
+  pub most : cycles ≤ 200000
+
+-- a table has these changes: rising numbers of cycles, not too many
+pub record HasChanges (table : Members) (changes : List ℕ) : Type 0 where
+  pub read : AreEach IsCycleCount (integers_at Changes table) changes
+  pub rising : IsTrue (are_rising changes)
+  pub few : length changes ≤ 1000
+
+-- the table of an input adds it to a machine: its name is one and is apart
+pub record AddsInput (m : Machine) (table : Members) (n : Machine) : Type 0 where
+  pub changes : List ℕ
+  pub keys : IsTrue (has_keys input_keys table)
+  pub named : IsTrue (is_name (text_at Name table))
+  pub apart : IsTrue (is_apart m (text_at Name table))
+  pub has : HasChanges table changes
+  pub added : n ≡ record m {
+    inputs = m.inputs ++ record { name = text_at Name table; changes = changes } ∷ [];
+  }
+
 -- an item adds what it is
 abbrev pub AddsItem : Machine → ItemKind → Members → Machine → Type 0
 AddsItem m kind.Axis table n = AddsAxis m table n
 AddsItem m kind.Group table n = AddsGroup m table n
 AddsItem m kind.Table table n = AddsTable m table n
+AddsItem m kind.Input table n = AddsInput m table n
 
 -- items lead from a machine to another, each from where those before it lead
 abbrev pub ItemsLead : Machine → List (ItemKind × Members) → Machine → Type 0
@@ -171,7 +197,7 @@ GivesVersion (Some d) v = (integer_in (Some d) ≡ pos 3) × (v ≡ version.Thre
 -- many items nor too few
 pub record GivesTop (top : Members) (version : TraceVersion) (cycle_us cycles entries : ℕ) :
     Type 0 where
-  pub keys : IsTrue (has_keys top_keys top)
+  pub keys : IsTrue (has_keys (top_keys (is_dated top)) top)
   pub dated : GivesVersion (value_at Version top) version
   pub cycle : integer_at CycleUs top ≡ pos cycle_us
   pub shortest : 100 ≤ cycle_us
@@ -203,5 +229,6 @@ pub record Configures (text : List ℕ) (machine : Machine) : Type 0 where
         version = version;
         cycle_us = cycle_us;
         drives = [];
+        inputs = [];
       })
       (items_of top) machine

@@ -14,10 +14,15 @@ use Rattle.machine_config.specs.declared.key.Key.TheVariants as key
 use Rattle.machine_config.specs.declared.key.Sort.{Sort}
 use Rattle.machine_config.specs.declared.key.Sort.TheVariants as sort
 
--- the keys of the text itself
-abbrev pub top_keys : List Key
-top_keys =
+-- the keys of the text itself that each version has
+abbrev pub first_top_keys : List Key
+first_top_keys =
     key.Version ∷ key.CycleUs ∷ key.Cycles ∷ key.Entries ∷ key.Axis ∷ key.Group ∷ key.Table ∷ []
+
+-- the keys of the text itself, by whether it gives a version
+abbrev pub top_keys : Bool → List Key
+top_keys false = first_top_keys
+top_keys true = first_top_keys ++ key.Input ∷ []
 
 -- the keys of an axis that each version has
 abbrev pub first_axis_keys : List Key
@@ -41,6 +46,10 @@ table_keys One = key.Points ∷ []
 table_keys Two = key.Points ∷ []
 table_keys Three = key.Points ∷ key.Sort ∷ []
 
+-- the keys of an input
+abbrev pub input_keys : List Key
+input_keys = key.Name ∷ key.Changes ∷ []
+
 -- the word of each key
 unfoldable pub word_of : Key → List ℕ
 word_of key.Version = codes "version"
@@ -50,6 +59,7 @@ word_of key.Entries = codes "entries"
 word_of key.Axis = codes "axis"
 word_of key.Group = codes "group"
 word_of key.Table = codes "table"
+word_of key.Input = codes "input"
 word_of key.Name = codes "name"
 word_of key.Lo = codes "lo"
 word_of key.Hi = codes "hi"
@@ -66,6 +76,7 @@ word_of key.Modulo = codes "modulo"
 word_of key.Axes = codes "axes"
 word_of key.Points = codes "points"
 word_of key.Sort = codes "sort"
+word_of key.Changes = codes "changes"
 
 -- what stands under each key: one value, or a list of values
 abbrev pub form_of : Key → Form
@@ -76,6 +87,7 @@ form_of key.Entries = form.One sort.Integer
 form_of key.Axis = form.List sort.Table
 form_of key.Group = form.List sort.Table
 form_of key.Table = form.List sort.Table
+form_of key.Input = form.List sort.Table
 form_of key.Name = form.One sort.Text
 form_of key.Lo = form.One sort.Quantity
 form_of key.Hi = form.One sort.Quantity
@@ -92,12 +104,14 @@ form_of key.Modulo = form.One sort.Flag
 form_of key.Axes = form.List sort.Text
 form_of key.Points = form.List sort.Text
 form_of key.Sort = form.One sort.Text
+form_of key.Changes = form.List sort.Integer
 
 -- whether a key may not be left out
 abbrev pub is_needed : Key → Bool
 is_needed key.Version = false
 is_needed key.Group = false
 is_needed key.Table = false
+is_needed key.Input = false
 is_needed key.Dmax = false
 is_needed key.Ready = false
 is_needed key.Lag = false

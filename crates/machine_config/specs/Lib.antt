@@ -10,6 +10,7 @@ pub mod Cases
 pub mod Axes
 pub mod Groups
 pub mod Tables
+pub mod Inputs
 pub mod Tops
 pub mod Reading
 pub mod Shown

@@ -12,6 +12,7 @@ use Rattle.toml.specs.Data.{Members}
 use Rattle.toml.specs.Parse.{parse_document}
 use Rattle.machine_config.specs.Axes.{axis_meaning}
 use Rattle.machine_config.specs.Groups.{group_meaning}
+use Rattle.machine_config.specs.Inputs.{input_meaning}
 use Rattle.machine_config.specs.Marks.{crowded_line}
 use Rattle.machine_config.specs.Tables.{table_meaning}
 use Rattle.machine_config.specs.Tops.{top_meaning}
@@ -27,17 +28,19 @@ abbrev pub of_kind : ItemKind → List Members → List (ItemKind × Members)
 of_kind k tables = map (λ (t : Members). (k, t)) tables
 
 -- the items of a configuration in the order of their places, which are counted from 1: its axes,
--- its groups and its cam tables
+-- its groups, its cam tables and its inputs
 unfoldable pub items_of : Members → List (ItemKind × Members)
 items_of top =
     of_kind kind.Axis (tables_at key.Axis top) ++ (of_kind kind.Group (tables_at key.Group top) ++
-    of_kind kind.Table (tables_at key.Table top))
+    (of_kind kind.Table (tables_at key.Table top) ++
+    of_kind kind.Input (tables_at key.Input top)))
 
 -- what an item makes of a machine
 unfoldable pub item_meaning : Machine → ItemKind → Members → Result Machine ℕ
 item_meaning m kind.Axis table = axis_meaning m table
 item_meaning m kind.Group table = group_meaning m table
 item_meaning m kind.Table table = table_meaning m table
+item_meaning m kind.Input table = input_meaning m table
 
 -- a rule is broken at a place, which is reported by the letter C
 abbrev pub refused_at : ℕ → ℕ → TextRefused

@@ -85,8 +85,8 @@ fn parameters_of(cycle_us: u32, table: &Table) -> Result<AxisParameters, LineFau
     })
 }
 
-// The change of acceleration in a cycle of this many microseconds. One that would be rounded to 0
-// is 1, which no axis may have.
+// The greatest change of acceleration in a cycle of this many microseconds. One that would be
+// rounded to 0 is 1, which no axis may have.
 fn jerk_per_cycle(jerk: i64, cycle_us: u32) -> i64
     requires small { unsigned_abs jerk ≤ 10 ^ 18 }
     requires cycle { IsCycle cycle_us }

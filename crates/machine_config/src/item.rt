@@ -11,6 +11,7 @@ ghost use Rattle.machine_config.specs.Shown.{shown};
 
 use crate::axis::add_axis;
 use crate::group::add_group;
+use crate::input::add_input;
 use crate::key::Key;
 use crate::machine::Machine;
 use crate::table::add_table;
@@ -25,9 +26,10 @@ pub enum ItemKind {
     Axis,
     Group,
     Table,
+    Input,
 }
 
-/// The items of a configuration: its axes, its groups and its cam tables.
+/// The items of a configuration: its axes, its groups, its cam tables and its inputs.
 #[tactic(auto, unfolding(crate::specs::Reading::items_of))]
 pub fn items_of(alloc: Global, top: &Table) -> Result<Vec<(ItemKind, &Table)>, AllocError>
     ensures { IfOk result (λ v. shown v.items ≡ spec.items_of (table_view top.now)) }
@@ -36,6 +38,7 @@ pub fn items_of(alloc: Global, top: &Table) -> Result<Vec<(ItemKind, &Table)>, A
     push_items(&mut items, ItemKind::Axis, values_at(top, Key::Axis))?;
     push_items(&mut items, ItemKind::Group, values_at(top, Key::Group))?;
     push_items(&mut items, ItemKind::Table, values_at(top, Key::Table))?;
+    push_items(&mut items, ItemKind::Input, values_at(top, Key::Input))?;
     Ok(items)
 }
 
@@ -74,5 +77,6 @@ pub fn add_item(
         ItemKind::Axis => add_axis(alloc, machine, table),
         ItemKind::Group => add_group(alloc, machine, table),
         ItemKind::Table => add_table(alloc, machine, table),
+        ItemKind::Input => add_input(alloc, machine, table),
     }
 }

@@ -18,6 +18,7 @@ pub enum Key {
     Axis,
     Group,
     Table,
+    Input,
     Name,
     Lo,
     Hi,
@@ -34,6 +35,7 @@ pub enum Key {
     Axes,
     Points,
     Sort,
+    Changes,
 }
 
 /// The sorts of a single value.
@@ -67,6 +69,7 @@ fn word_of(key: Key) -> &'static str
         Key::Axis => "axis",
         Key::Group => "group",
         Key::Table => "table",
+        Key::Input => "input",
         Key::Name => "name",
         Key::Lo => "lo",
         Key::Hi => "hi",
@@ -83,6 +86,7 @@ fn word_of(key: Key) -> &'static str
         Key::Axes => "axes",
         Key::Points => "points",
         Key::Sort => "sort",
+        Key::Changes => "changes",
     }
 }
 
@@ -94,7 +98,7 @@ fn form_of(key: Key) -> Form
         Key::Version | Key::CycleUs | Key::Cycles | Key::Entries | Key::Lag => {
             Form::One(Sort::Integer)
         }
-        Key::Axis | Key::Group | Key::Table => Form::List(Sort::Table),
+        Key::Axis | Key::Group | Key::Table | Key::Input => Form::List(Sort::Table),
         Key::Name | Key::Sort => Form::One(Sort::Text),
         Key::Lo
         | Key::Hi
@@ -105,7 +109,7 @@ fn form_of(key: Key) -> Form
         | Key::Start
         | Key::Jmax => Form::One(Sort::Quantity),
         Key::Ready | Key::Modulo => Form::One(Sort::Flag),
-        Key::Faults => Form::List(Sort::Integer),
+        Key::Faults | Key::Changes => Form::List(Sort::Integer),
         Key::Axes | Key::Points => Form::List(Sort::Text),
     }
 }
@@ -114,19 +118,20 @@ fn form_of(key: Key) -> Form
 fn is_needed(key: Key) -> bool
     ensures { result ≡ spec.is_needed key }
 {
-    !matches!(
-        key,
+    match key {
         Key::Version
-            | Key::Group
-            | Key::Table
-            | Key::Dmax
-            | Key::Ready
-            | Key::Lag
-            | Key::Faults
-            | Key::Jmax
-            | Key::Modulo
-            | Key::Sort
-    )
+        | Key::Group
+        | Key::Table
+        | Key::Input
+        | Key::Dmax
+        | Key::Ready
+        | Key::Lag
+        | Key::Faults
+        | Key::Jmax
+        | Key::Modulo
+        | Key::Sort => false,
+        _ => true,
+    }
 }
 
 /// What stands under a key of a table.

@@ -6,8 +6,8 @@ ghost use Rattle.machine_config.specs.Keys as spec;
 use crate::key::Key;
 use motion_history::TraceVersion;
 
-/// The keys of the text itself.
-pub const TOP_KEYS: [Key; 7] = [
+/// The keys of the text itself that each version has.
+const FIRST_TOP_KEYS: [Key; 7] = [
     Key::Version,
     Key::CycleUs,
     Key::Cycles,
@@ -15,6 +15,18 @@ pub const TOP_KEYS: [Key; 7] = [
     Key::Axis,
     Key::Group,
     Key::Table,
+];
+
+/// The keys of the text itself in version 3.
+const TOP_KEYS_3: [Key; 8] = [
+    Key::Version,
+    Key::CycleUs,
+    Key::Cycles,
+    Key::Entries,
+    Key::Axis,
+    Key::Group,
+    Key::Table,
+    Key::Input,
 ];
 
 /// The keys of an axis that each version has.
@@ -57,6 +69,16 @@ const FIRST_TABLE_KEYS: [Key; 1] = [Key::Points];
 
 /// The keys of a cam table in version 3.
 const TABLE_KEYS_3: [Key; 2] = [Key::Points, Key::Sort];
+
+/// The keys of an input.
+pub const INPUT_KEYS: [Key; 2] = [Key::Name, Key::Changes];
+
+/// The keys of the text itself, by whether it gives a version.
+pub fn top_keys(dated: bool) -> &'static [Key]
+    ensures { result.now ≡ spec.top_keys dated }
+{
+    if dated { &TOP_KEYS_3 } else { &FIRST_TOP_KEYS }
+}
 
 /// The keys of an axis in a text of a version.
 pub fn axis_keys(version: TraceVersion) -> &'static [Key]

@@ -7,6 +7,8 @@ mod axis;
 mod case;
 mod drive;
 mod group;
+mod input;
+mod inputs;
 mod item;
 mod key;
 mod keys;
@@ -19,5 +21,6 @@ mod table;
 mod top;
 mod value;
 
+pub use inputs::{CycleList, InputDef, InputDefs, MOST_CHANGES, MOST_INPUTS};
 pub use machine::Machine;
 pub use reading::read_config;

@@ -1,5 +1,6 @@
 // What a configuration makes.
 
+use crate::inputs::InputDefs;
 use motion_history::{Builder, DriveDefs, TraceVersion};
 
 /// A machine without tasks and blocks.
@@ -13,4 +14,6 @@ pub struct Machine {
     pub cycle_us: u32,
     /// The drive of each axis, in the order of the axes.
     pub drives: DriveDefs,
+    /// The inputs that programs in Structured Text read, in their order.
+    pub inputs: InputDefs,
 }

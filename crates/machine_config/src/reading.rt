@@ -22,9 +22,9 @@ use toml::{Table, table_from_slice};
 
 /// The machine that a text configures. A text that configures none is refused at its first place
 /// that breaks a rule, by the first rule that it breaks: C1 to C8. C8 is tested first, and its
-/// place is a line. Else place 0 is the top; the axes, groups and cam tables are counted from 1,
-/// one after the other. It takes memory for the TOML document that the text is, besides the
-/// machine.
+/// place is a line. Else place 0 is the top; the axes, groups, cam tables and inputs are counted
+/// from 1, one after the other. It takes memory for the TOML document that the text is, besides
+/// the machine.
 pub fn read_config(alloc: Global, text: &[u8]) -> Result<Machine, TextFault>
     // What is read is a machine that the text configures.
     ensures found { IfOk result (Configures text.now) }

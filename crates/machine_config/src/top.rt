@@ -6,8 +6,9 @@ ghost use Rattle.toml.specs.View.{table_view};
 ghost use Rattle.machine_config.specs.Machines.{IsUnderWay};
 ghost use Rattle.machine_config.specs.Tops as spec;
 
+use crate::inputs::{InputDefs, MOST_INPUTS};
 use crate::key::{Key, has_keys, value_at};
-use crate::keys::TOP_KEYS;
+use crate::keys::top_keys;
 use crate::machine::Machine;
 use crate::rule::{OUT_OF_RANGE, WRONG_COUNT, WRONG_KEY};
 use crate::value::{integer_at, values_at};
@@ -26,7 +27,7 @@ pub fn bare_machine(alloc: Global, top: &Table) -> Result<Machine, LineFault>
     ensures value { Gives (λ m. m) (spec.top_meaning (table_view top.now)) result }
     ensures kept { IfOk result IsUnderWay }
 {
-    broken_unless(has_keys(&TOP_KEYS, top), WRONG_KEY)?;
+    broken_unless(has_keys(top_keys(is_dated(top)), top), WRONG_KEY)?;
     let version = version_of(top)?;
     let cycle_us = in_range(
         SHORTEST_CYCLE,
@@ -45,7 +46,16 @@ pub fn bare_machine(alloc: Global, top: &Table) -> Result<Machine, LineFault>
         version,
         cycle_us,
         drives: DriveDefs::new(alloc),
+        inputs: InputDefs::new(alloc),
     })
+}
+
+// Whether the top gives a version.
+#[tactic(auto, unfolding(crate::specs::Tops::is_dated))]
+fn is_dated(top: &Table) -> bool
+    ensures { result ≡ spec.is_dated (table_view top.now) }
+{
+    value_at(top, Key::Version).is_some()
 }
 
 // The version of a configuration.
@@ -71,5 +81,10 @@ fn are_counted(top: &Table) -> bool
     let axes = values_at(top, Key::Axis).len();
     let groups = values_at(top, Key::Group).len();
     let tables = values_at(top, Key::Table).len();
-    1 <= axes && axes <= MOST_AXES && groups <= MOST_GROUPS && tables <= MOST_TABLES
+    let inputs = values_at(top, Key::Input).len();
+    1 <= axes
+        && axes <= MOST_AXES
+        && groups <= MOST_GROUPS
+        && tables <= MOST_TABLES
+        && inputs <= MOST_INPUTS
 }

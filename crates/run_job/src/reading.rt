@@ -77,6 +77,7 @@ fn plant_of(alloc: Global, machine: Machine, text: &[u8]) -> Result<RunRead, Tex
         version,
         cycle_us,
         drives,
+        ..
     } = machine;
     let program = read_program(alloc, text, &mut config, version, cycle_us)?;
     let Ok(program) = Arc::new(alloc, program) else {
