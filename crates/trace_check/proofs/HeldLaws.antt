@@ -1,7 +1,7 @@
 -- The history of a legal trace that was read can be held by the version in which it is written
 -- again.
 -- for: traces_tell_their_history, migrated_traces_are_legal
-use Rattle.std.proofs.Common.{◌≡◌, ℕ, List, [], ◌∷◌, length, map, refl, ap, subst, arith}
+use Rattle.std.proofs.Common.{◌≡◌, ℕ, ◌≤◌, List, [], ◌∷◌, length, map, refl, ap, subst, arith}
 use Rattle.std.specs.List.{AllByRecursion, AllZip}
 use Rattle.std.proofs.lemmas.List.{length-take}
 use Rattle.std.proofs.lemmas.List.Elements.{All-from_recursion, recursion_from_All}
@@ -18,7 +18,9 @@ use Rattle.motion_kernel.specs.Counted.{IsCounted, RowsAreCounted}
 use Rattle.motion_kernel.specs.Histories.{IsLegal, IsPast}
 use Rattle.motion_kernel.specs.kept.Machine.{AreWhole}
 use Rattle.trace_text.specs.Trace.{BrakeAlike, CanHold}
-use Rattle.trace_text.proofs.Versions.{version-holds}
+use Rattle.motion_history.specs.Versions.{number_of}
+use Rattle.motion_history.proofs.DistinctLemmas.{each-weaker}
+use Rattle.trace_text.proofs.Versions.{later-writable, version-holds, version-later}
 use Rattle.trace_check.specs.Laws.{migrated_version, renewed}
 use Rattle.trace_text.specs.RowRanges.{IsGroupRow, IsRow, found_row}
 use Rattle.trace_text.specs.TraceKept.{IsEntryRead, IsRowRead, IsTraceKept}
@@ -61,7 +63,7 @@ rows-held [] (r ∷ rs) h c = c
 rows-held (d ∷ ds) [] h c = c
 rows-held (d ∷ ds) (r ∷ rs) h c = (row-held d r h.0.row c.0, rows-held ds rs h.1 c.1)
 
-entry-held : (v : TraceVersion) (s : Setup) (e : Entry) → IsEntryRead v s (found_entry v s e) → IsEntryCounted s e → IsWritable s e
+entry-held : (v : TraceVersion) (s : Setup) (e : Entry) → IsEntryRead v s (found_entry v s e) → IsEntryCounted s e → IsWritable v s e
 entry-held v s (call k inputs reply) h c = h
 entry-held v s (end_of task) h c = h
 entry-held v s (cycle n rows grows) h c = record {
@@ -80,7 +82,7 @@ first-counted s (end_of task) es h = tt
 later-counted : (s : Setup) (e : Entry) (es : List Entry) → RowsAreCounted s (e ∷ es) → RowsAreCounted s es
 later-counted s e es h = λ made more n rows grows is. h (e ∷ made) more n rows grows (ap (λ l. e ∷ l) is)
 
-entries-held : (v : TraceVersion) (s : Setup) (es : List Entry) → AllByRecursion (IsEntryRead v s) (map (found_entry v s) es) → RowsAreCounted s es → AllByRecursion (IsWritable s) es
+entries-held : (v : TraceVersion) (s : Setup) (es : List Entry) → AllByRecursion (IsEntryRead v s) (map (found_entry v s) es) → RowsAreCounted s es → AllByRecursion (IsWritable v s) es
 entries-held v s [] h c = tt
 entries-held v s (e ∷ es) h c = (entry-held v s e h.0 (first-counted s e es c), entries-held v s es h.1 (later-counted s e es c))
 
@@ -107,6 +109,17 @@ renewed-brakes Three s e = absurd (cc e)
 pub migrated-holds : (t : TraceState) → CanHold (migrated_version t) t.config
 migrated-holds t = version-holds (renewed t.version) t.config (renewed-brakes t.version t.config)
 
+renewed-later : (v : TraceVersion) → number_of v ≤ number_of (renewed v)
+renewed-later One = omega arith
+renewed-later Two = omega arith
+renewed-later Three = omega arith
+
+migrated-later : (t : TraceState) → number_of t.version ≤ number_of (migrated_version t)
+migrated-later t =
+    let first = renewed-later t.version in
+    let second = version-later (renewed t.version) t.config in
+    omega (arith, first, second)
+
 -- a legal trace that was read
 pub trace-held : Laws → (t : TraceState) (es : List Entry) → IsTraceKept t → IsLegal t.config es → IsTraceOf t es → IsHeld (migrated_version t) t.config es t.drives
 trace-held g t es kept legal is =
@@ -116,7 +129,8 @@ trace-held g t es kept legal is =
     record {
       machine = kept.machine;
       version = migrated-holds t;
-      entries = All-from_recursion (IsWritable t.config) es (entries-held t.version t.config es read counted);
+      entries = All-from_recursion (IsWritable (migrated_version t) t.config) es
+          (each-weaker _ _ (later-writable t.version (migrated_version t) (migrated-later t) t.config) es (entries-held t.version t.config es read counted));
       as_many = kept.as_many;
       drives = kept.drives;
     }

@@ -31,8 +31,8 @@ abbrev pub renewed : TraceVersion → TraceVersion
 renewed One = Two
 renewed v = v
 
--- the version in which it is written: this one, or version 3 where the machine has a kind of block
--- that only version 3 has
+-- the version in which it is written: this one, or version 3 where the machine asks for what only
+-- version 3 has
 abbrev pub migrated_version : TraceState → TraceVersion
 migrated_version t = trace_version (renewed t.version) t.config
 

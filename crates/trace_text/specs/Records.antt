@@ -71,8 +71,8 @@ braking_fields d =
     signed_decimal d.limits.vmax ∷ signed_decimal d.limits.amax ∷ signed_decimal d.limits.dmax ∷
     signed_decimal d.inc ∷ signed_decimal d.start ∷ flag_text d.ready ∷ []
 
--- version 1 has no field for the braking limit; version 3 has two more, for the limit of jerk and for
--- whether the axis turns for ever
+-- version 1 has no field for the braking limit; version 3 has two more, for the limit of jerk and
+-- for whether the axis turns for ever
 abbrev pub axis_fields : TraceVersion → AxisDef → List (List ℕ)
 axis_fields One d =
     codes "axis" ∷ d.name ∷ signed_decimal d.limits.lo ∷ signed_decimal d.limits.hi ∷
@@ -129,8 +129,8 @@ positions_text v s b positions =
 abbrev pub ratio_text : Inputs → List ℕ
 ratio_text i = signed_decimal i.numerator ++ (58 ∷ signed_decimal i.denominator)
 
--- what an axis follows: its master with the gear's ratio or with the number of the cam table; and the
--- ratio of an override
+-- what an axis follows: its master with the gear's ratio or with the number of the cam table; and
+-- the ratio of an override
 unfoldable pub follow_text : Setup → BlockKind → Inputs → List ℕ
 follow_text s GearIn i = axis_name s i.master ++ (58 ∷ ratio_text i)
 follow_text s GearInPos i = axis_name s i.master ++ (58 ∷ ratio_text i)

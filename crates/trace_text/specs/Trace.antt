@@ -68,8 +68,8 @@ has_kinds v blocks = list_all (has_kind v) blocks
 abbrev pub BrakeAlike : Setup → Type 0
 BrakeAlike s = All (λ (d : AxisDef). d.limits.dmax ≡ d.limits.amax) s.axes
 
--- the first version that has what an axis asks for: a limit of jerk, and turning for ever, came with
--- version 3
+-- the first version that has what an axis asks for: a limit of jerk, and turning for ever, came
+-- with version 3
 abbrev pub axis_version : AxisDef → ℕ
 axis_version d = if int_eq d.jmax (pos 0) && not d.modulo then 1 else 3
 

@@ -9,7 +9,6 @@ use Rattle.std.proofs.Common.{◌∙◌, ap, arith, sym, subst}
 use Rattle.std.proofs.lemmas.Bool.{and_parts, eqb-true, false_from_ne_true, leb-true, lt-ltb, ltb-true, ne_eqb}
 use Rattle.std.proofs.lemmas.Fmt.{decimal_digit, decimal_nonempty}
 use Rattle.plc_types.specs.declared.axis_state.AxisState.TheVariants as axis
-use Rattle.plc_types.specs.declared.kind.BlockKind.TheVariants as kind
 use Rattle.plc_types.specs.declared.kind.BufferMode.TheVariants as mode
 use Rattle.plc_types.specs.declared.group.GroupState.TheVariants as group
 use Rattle.std.proofs.lemmas.Int.{ints}
@@ -17,6 +16,7 @@ use Rattle.plc_types.specs.declared.axis_state.AxisState.{AxisState}
 use Rattle.buffer_modes.specs.declared.reset.PendingReset.{PendingReset}
 use Rattle.plc_types.specs.declared.kind.BlockKind.{BlockKind}
 use Rattle.plc_types.specs.declared.kind.BufferMode.{BufferMode}
+use Rattle.plc_types.specs.declared.kind_names.TheConstants.{KINDS}
 use Rattle.plc_types.specs.KindNames.{kind_name, kind_named, mode_name, mode_named}
 use Rattle.plc_types.specs.declared.group.GroupState.{GroupState}
 use Rattle.line_text.specs.Texts.{says}
@@ -97,7 +97,7 @@ group_state-only field s h = same-bytes _ _ (find-only (λ x. bytes_eq (group_st
 
 pub kind-only : (field : List ℕ) (k : BlockKind) → kind_named field ≡ Some k → kind_name k ≡ field
 unfolding kind_named
-kind-only field k h = same-bytes _ _ (find-only (λ x. bytes_eq (kind_name x) field) (kind.Power ∷ kind.Reset ∷ kind.Home ∷ kind.Stop ∷ kind.Halt ∷ kind.MoveAbsolute ∷ kind.MoveRelative ∷ kind.MoveVelocity ∷ kind.GearIn ∷ kind.GearOut ∷ kind.CamIn ∷ kind.CamOut ∷ kind.GroupEnable ∷ kind.GroupDisable ∷ kind.GroupReset ∷ kind.GroupStop ∷ kind.GroupHalt ∷ kind.MoveLinearAbsolute ∷ kind.MoveCircularAbsolute ∷ kind.MoveAdditive ∷ []) k h)
+kind-only field k h = same-bytes _ _ (find-only (λ x. bytes_eq (kind_name x) field) KINDS k h)
 
 pub mode-only : (field : List ℕ) (m : BufferMode) → mode_named field ≡ Some m → mode_name m ≡ field
 unfolding mode_named

@@ -102,7 +102,8 @@ axis_added v s name limits behind = do
   _ ← broken_by rule_of (axis_fault s name p)
   Ok (record s { axes = s.axes ++ axis_of name p ∷ [] })
 
--- an axis: its name, its limits, and what else it is. In version 1 it brakes as hard as it speeds up
+-- an axis: its name, its limits, and what else it is. In version 1 it brakes as hard as it speeds
+-- up
 unfoldable pub axis_meaning : TraceVersion → Setup → List (List ℕ) → Result Setup ℕ
 axis_meaning One s (name ∷ lo ∷ hi ∷ vmax ∷ amax ∷ behind) =
     axis_added One s name (lo ∷ hi ∷ vmax ∷ amax ∷ amax ∷ []) behind

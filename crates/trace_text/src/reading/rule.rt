@@ -44,7 +44,7 @@ pub fn value<T: Copy>(found: Option<T>) -> Result<T, LineFault>
     required(found, NO_VALUE)
 }
 
-/// Why a record is refused whose item has this fault, or after which the machine has it.
+/// Why a record is refused where its item or the machine has this fault.
 pub fn refusal_of(fault: ConfigFault) -> LineFault
     ensures memory { fault ≡ OutOfMemory → result ≡ LineFault.OutOfMemory }
     ensures rule { fault ≢ OutOfMemory → result ≡ LineFault.Rule (spec.rule_of fault) }
