@@ -25,12 +25,11 @@ use Rattle.motion_kernel.specs.Machine.{Machine, machine_at_opening}
 use Rattle.motion_kernel.specs.kept.Machine.{AreWhole, IsMachineKept}
 use Rattle.trace_text.specs.RowRanges.{IsDriveEnd, IsGroupRow}
 use Rattle.trace_text.specs.Trace.{CanHold}
-use Rattle.trace_text.proofs.Versions.{three-inputs}
+use Rattle.trace_text.proofs.Versions.{of-each-version}
 use Rattle.motion_history.specs.Calls.{axes_of}
-use Rattle.motion_history.specs.declared.refused.TraceVersion.TheVariants.{Three}
 use Rattle.trace_check.specs.KeptHistories.{IsKeptHistory}
 use Rattle.trace_text.specs.declared.drive_end.DriveEndRow.{DriveEndRow}
-use Rattle.trace_text.specs.Writable.{IsEntryOfVersion, IsHeld, IsMachine, IsRowOf, IsWritable, IsWritableCall, IsWritableCycle}
+use Rattle.trace_text.specs.Writable.{IsHeld, IsMachine, IsRowOf, IsWritable, IsWritableCall, IsWritableCycle}
 
 -- the laws of the layers below
 pub record Laws : Type 0 where
@@ -93,15 +92,14 @@ later-counted s e es h =
 
 entries-held : Laws → (v : TraceVersion) (s : Setup) (cycles : ℕ) (m : Machine) (es : List Entry) →
     AreWhole s → IsMachineKept s m → Follows s cycles m es → AllByRecursion HasBits es →
-    RowsAreCounted s es → cycles + cycles_of es < 4294967296 →
-    AllByRecursion (IsEntryOfVersion v s) es → AllByRecursion (IsWritable v s) es
-entries-held g v s cycles m [] whole kept f bits counted few of = tt
-entries-held g v s cycles m (call k i reply ∷ es) whole kept f bits counted few of =
+    RowsAreCounted s es → cycles + cycles_of es < 4294967296 → AllByRecursion (IsWritable v s) es
+entries-held g v s cycles m [] whole kept f bits counted few = tt
+entries-held g v s cycles m (call k i reply ∷ es) whole kept f bits counted few =
     let total : cycles + (0 + cycles_of es) < 4294967296 = few in
     let later : (cycles + 0) + cycles_of es < 4294967296 = omega (arith, total) in
     let here : IsWritableCall v s k i reply = record {
       call = f.0.0;
-      version = of.0;
+      version = λ b at. of-each-version v b.kind (axes_of s b) i (f.0.0.inputs b at);
       positions = bits.0.positions;
       table = bits.0.table;
       error = bits.0.error;
@@ -109,9 +107,9 @@ entries-held g v s cycles m (call k i reply ∷ es) whole kept f bits counted fe
       here,
       entries-held g v s (cycles + cycle_count (call k i reply)) (after_call s m k i) es
           whole (g.machines.call s m k i whole f.0.0 kept) f.1 bits.1
-          (later-counted s (call k i reply) es counted) later of.1,
+          (later-counted s (call k i reply) es counted) later,
     )
-entries-held g v s cycles m (cycle n rows grows ∷ es) whole kept f bits counted few of =
+entries-held g v s cycles m (cycle n rows grows ∷ es) whole kept f bits counted few =
     let total : cycles + (1 + cycles_of es) < 4294967296 = few in
     let later : (cycles + 1) + cycles_of es < 4294967296 = omega (arith, total) in
     let number : n ≡ cycles + 1 = f.0.0 in
@@ -121,28 +119,15 @@ entries-held g v s cycles m (cycle n rows grows ∷ es) whole kept f bits counte
       entries-held g v s (cycles + cycle_count (cycle n rows grows))
           (after_cycle s m (inputs_of rows)) es whole
           (kept_by_cycle g.machines s m rows grows kept f.0.1) f.1 bits.1
-          (later-counted s (cycle n rows grows) es counted) later of.1,
+          (later-counted s (cycle n rows grows) es counted) later,
     )
-entries-held g v s cycles m (end_of task ∷ es) whole kept f bits counted few of =
+entries-held g v s cycles m (end_of task ∷ es) whole kept f bits counted few =
     let total : cycles + (0 + cycles_of es) < 4294967296 = few in
     let later : (cycles + 0) + cycles_of es < 4294967296 = omega (arith, total) in (
       f.0,
       entries-held g v s (cycles + cycle_count (end_of task)) m es whole kept f.1 bits.1
-          (later-counted s (end_of task) es counted) later of.1,
+          (later-counted s (end_of task) es counted) later,
     )
-
--- version 3 has all that calls give
-pub three-entries : (s : Setup) (cycles : ℕ) (m : Machine) (es : List Entry) →
-    Follows s cycles m es → AllByRecursion (IsEntryOfVersion Three s) es
-three-entries s cycles m [] f = tt
-three-entries s cycles m (call k i reply ∷ es) f = (
-  λ b at. three-inputs b.kind (axes_of s b) i (f.0.0.inputs b at),
-  three-entries s (cycles + cycle_count (call k i reply)) (after_call s m k i) es f.1,
-)
-three-entries s cycles m (cycle n rows grows ∷ es) f =
-    (tt, three-entries s (cycles + cycle_count (cycle n rows grows)) (after_cycle s m (inputs_of rows)) es f.1)
-three-entries s cycles m (end_of task ∷ es) f =
-    (tt, three-entries s (cycles + cycle_count (end_of task)) m es f.1)
 
 -- ---- the machine
 
@@ -171,9 +156,9 @@ machine-held s setup whole = record {
 
 -- so a version that can hold the machine can hold it
 pub history-held : Laws → (v : TraceVersion) (s : Setup) (es : List Entry) (ds : List DriveEndRow) →
-    IsKeptHistory s es → CanHold v s → All (IsEntryOfVersion v s) es →
-    length ds ≡ length s.axes → All IsDriveEnd ds → IsHeld v s es ds
-history-held g v s es ds kept version of many bits =
+    IsKeptHistory s es → CanHold v s → length ds ≡ length s.axes → All IsDriveEnd ds →
+    IsHeld v s es ds
+history-held g v s es ds kept version many bits =
     let sizes = kept.setup.within.sizes in
     let few : s.cycles ≤ 200000 = sizes.cycles in
     let made = kept.legal.cycles in
@@ -185,7 +170,7 @@ history-held g v s es ds kept version of many bits =
           (g.machines.opened s kept.setup kept.whole) kept.legal.follows
           (recursion_from_All HasBits es kept.bits)
           (g.counted s es kept.setup kept.whole (record { follows = kept.legal.follows }))
-          (omega (arith, bounded)) (recursion_from_All (IsEntryOfVersion v s) es of));
+          (omega (arith, bounded)));
       as_many = many;
       drives = bits;
     }

@@ -9,7 +9,7 @@ use Rattle.motion_kernel.specs.kept.Machine.{AreWhole}
 use Rattle.trace_text.specs.reading.Reading.{trace_of}
 use Rattle.trace_text.specs.RowRanges.{IsDriveEnd}
 use Rattle.trace_text.specs.Trace.{CanHold, trace_text}
-use Rattle.trace_text.specs.Writable.{IsEntryOfVersion, found_trace}
+use Rattle.trace_text.specs.Writable.{found_trace}
 use Rattle.trace_text.specs.declared.command.Command.{Command}
 use Rattle.trace_text.specs.declared.drive_end.DriveEndRow.{DriveEndRow}
 
@@ -26,9 +26,8 @@ pub record IsKeptHistory (s : Setup) (es : List Entry) : Type 0 where
 abbrev pub IsReadBack : TraceVersion → Command → Setup → List Entry → List DriveEndRow → Type 0
 IsReadBack v c s es ds = trace_of (trace_text v c s es ds) ≡ Ok (found_trace v c s es ds)
 
--- so it is with every history that a kernel keeps, in each version that can hold its machine and has
--- what its calls give
+-- so it is with every history that a kernel keeps, in each version that can hold its machine
 abbrev pub KeptHistoriesAreReadBack : Type 0
 KeptHistoriesAreReadBack = (v : TraceVersion) (c : Command) (s : Setup) (es : List Entry)
-    (ds : List DriveEndRow) → IsKeptHistory s es → CanHold v s → All (IsEntryOfVersion v s) es →
-    length ds ≡ length s.axes → All IsDriveEnd ds → IsReadBack v c s es ds
+    (ds : List DriveEndRow) → IsKeptHistory s es → CanHold v s → length ds ≡ length s.axes →
+    All IsDriveEnd ds → IsReadBack v c s es ds

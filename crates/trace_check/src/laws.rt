@@ -26,8 +26,7 @@ pub fn migrated_traces_are_legal()
 }
 
 /// The trace of a history that a kernel keeps, and of what the drives took, is read as that of its
-/// machine, this history and these drives, in each version that can hold the machine and has what its
-/// calls give. Nothing runs.
+/// machine, this history and these drives, in each version that can hold the machine. Nothing runs.
 pub fn kept_histories_are_read_back()
     ensures { KeptHistoriesAreReadBack }
 {

@@ -50,13 +50,6 @@ pub record IsWritableCall (v : TraceVersion) (s : Setup) (k : ℕ) (i : Inputs) 
   pub table : i.table < 2 ^ 16
   pub error : o.error_id < 2 ^ 16
 
--- an entry gives nothing that only a later version has
-abbrev pub IsEntryOfVersion : TraceVersion → Setup → Entry → Type 0
-IsEntryOfVersion v s (call k inputs reply) =
-    (b : BlockDef) → slice_get s.blocks k ≡ Some b → IsOfVersion v b.kind inputs
-IsEntryOfVersion v s (cycle n rows groups) = Unit {0}
-IsEntryOfVersion v s (end_of task) = Unit {0}
-
 -- a row of an axis is in the ranges of its columns, and so is the place that its drive reports
 pub record IsRowOf (d : AxisDef) (r : AxisRow) : Type 0 where
   pub row : IsRow r

@@ -3,7 +3,7 @@ use Rattle.trace_check.proofs.KeptHistories.{Laws, history-held}
 use Rattle.trace_check.proofs.laws.kept_histories_are_read_back.Goals as goal
 
 pub returns : goal.returns
-returns c = λ v who s es ds kept version of many bits.
+returns c = λ v who s es ds kept version many bits.
     let laws : Laws = record {
       counted = c.rows_are_counted.ensures;
       machines = record {
@@ -13,4 +13,4 @@ returns c = λ v who s es ds kept version of many bits.
         cycle = c.machines_stay_kept.ensures.cycle;
       };
     } in
-    c.traces_are_read_back.ensures.read v who s es ds (history-held laws v s es ds kept version of many bits)
+    c.traces_are_read_back.ensures.read v who s es ds (history-held laws v s es ds kept version many bits)
