@@ -19,4 +19,5 @@ mod statements;
 mod table;
 
 pub use laws::faults_are_final;
+pub use pile::{Pile, push};
 pub use reading::{Reading, read_tree};

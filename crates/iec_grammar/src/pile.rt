@@ -1,7 +1,7 @@
 // Piles: what was put on last is taken off first.
 
 ghost use Rattle.std.specs.Prelude.{◌≡◌, ◌∷◌, ◌++◌, [], OnOk};
-ghost use Rattle.iec_grammar.specs.Piles.{Pops};
+ghost use Rattle.iec_grammar.specs.Piles.{Pops, is_nothing};
 
 use motion_numbers::OutOfMemory;
 use std::alloc::Global;
@@ -36,6 +36,13 @@ impl<T: Drop> Pile<T> {
         ensures { OnOk result (self.new ≡ item ∷ self.old) }
     {
         push(&mut self.items, item)
+    }
+
+    /// Whether nothing is on the pile.
+    pub fn is_empty(&self) -> bool
+        ensures { result ≡ is_nothing self.now }
+    {
+        self.items.is_empty()
     }
 
     /// Takes the item off that was put on last.

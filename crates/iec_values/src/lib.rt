@@ -22,4 +22,4 @@ pub use iec_tree::{Elementary, Function, Operator, function_named};
 pub use laws::{numbers_are_exact, results_are_of_their_types, types_widen_in_order};
 pub use operations::{Operation, apply};
 pub use operators::{Join, contrary_of, join_of, negative_of};
-pub use types::{common_type, computed_type, greatest, holds, least, widens};
+pub use types::{all_widen, common_type, computed_type, greatest, holds, least, widens};

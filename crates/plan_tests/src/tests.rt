@@ -14,6 +14,7 @@ use std::process::Abort;
 mod blends;
 mod cams;
 mod counts;
+mod declarations;
 mod followers;
 mod grammar;
 mod interfaces;
