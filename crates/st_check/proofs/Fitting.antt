@@ -239,11 +239,11 @@ only_is true x h = refl
 only_is false x h = absurd (cc)
 
 pub given_goes : (s : Setup) (b : Callee) (g : Going) (key : Key) → (i : IsCallee s b) → g.block ≡ slice_get s.blocks b.number →
-    (takes b.kind (input_of key) && is_placed b.axes key) ≡ true → going_after s (part.Given key) g ≡ Some g
+    (takes b.kind (input_of key) && is_placed b.kind b.axes key) ≡ true → going_after s (part.Given key) g ≡ Some g
 given_goes s b g key i is fits =
-    let kind : (takes i.block.kind (input_of key) && is_placed (axes_of s i.block) key) ≡ true =
-    subst (λ k. (takes k (input_of key) && is_placed (axes_of s i.block) key) ≡ true) (sym i.kind)
-    (subst (λ n. (takes b.kind (input_of key) && is_placed n key) ≡ true) (sym i.axes) fits) in
+    let kind : (takes i.block.kind (input_of key) && is_placed i.block.kind (axes_of s i.block) key) ≡ true =
+    subst (λ k. (takes k (input_of key) && is_placed k (axes_of s i.block) key) ≡ true) (sym i.kind)
+    (subst (λ n. (takes b.kind (input_of key) && is_placed b.kind n key) ≡ true) (sym i.axes) fits) in
     only_is (takes_key s g.block key) g (ap (λ o. takes_key s o key) (block_is s b g i is) ∙ kind)
 
 pub mode_goes : (s : Setup) (b : Callee) (g : Going) (m : BufferMode) → (i : IsCallee s b) → g.block ≡ slice_get s.blocks b.number →

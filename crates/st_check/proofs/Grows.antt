@@ -36,7 +36,7 @@ execute_grows s u grows k g h (Some b) at is =
 
 key_grows : (s u : Setup) → Grows s u → (o : Option BlockDef) (key : Key) → takes_key u o key ≡ takes_key s o key
 key_grows s u grows None key = refl
-key_grows s u grows (Some b) key = ap (λ n. takes b.kind (input_of key) && is_placed n key) (axes_grow s u grows b)
+key_grows s u grows (Some b) key = ap (λ n. takes b.kind (input_of key) && is_placed b.kind n key) (axes_grow s u grows b)
 
 master_grows : (s u : Setup) → Grows s u → (o : Option BlockDef) (axis : ℕ) → takes_master u o axis ≡ takes_master s o axis
 master_grows s u grows None axis = refl

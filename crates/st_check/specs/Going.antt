@@ -24,7 +24,7 @@ is_own tasks (Some b) = b.task == tasks - 1
 -- it takes a key, a mode, a master
 abbrev pub takes_key : Setup → Option BlockDef → Key → Bool
 takes_key s None key = false
-takes_key s (Some b) key = takes b.kind (input_of key) && is_placed (axes_of s b) key
+takes_key s (Some b) key = takes b.kind (input_of key) && is_placed b.kind (axes_of s b) key
 
 abbrev pub takes_mode : Option BlockDef → Bool
 takes_mode None = false

@@ -1,11 +1,13 @@
 -- The keys of a call in Structured Text, in the order of a bench's keys, but that `pos1` to `pos6`
 -- stand for `pos` where the block acts on a group. This project's profile.
-use Rattle.std.specs.Prelude.{ℕ, ◌-◌, ◌&&◌, ◌==◌, nat_eq, nat_le, nat_lt, if◌then◌else◌, codes, Option, Some, None, List, [], ◌∷◌, length, slice_index_or, take}
+use Rattle.std.specs.Prelude.{ℕ, ◌-◌, ◌&&◌, ◌==◌, nat_eq, nat_le, nat_lt, if◌then◌else◌, codes, Bool, true, false, Option, Some, None, List, [], ◌∷◌, length, slice_index_or, take}
 use Rattle.std.specs.List.{find, starts_with}
 use Rattle.std.specs.Str.{bytes_eq}
 use Rattle.plc_types.specs.Kinds.{acts_on_group}
 use Rattle.plc_types.specs.Inputs.{is_same, takes}
 use Rattle.plc_types.specs.declared.inputs.Input.{Input}
+use Rattle.plc_types.specs.declared.kind.BlockKind.{BlockKind}
+use Rattle.st_tree.specs.Fitting.{has_places}
 use Rattle.plc_types.specs.declared.inputs.Input.TheVariants as input
 use Rattle.machine_words.specs.Keys.{key_of}
 use Rattle.st_check.specs.declared.known.Callee.{Callee}
@@ -34,11 +36,18 @@ place_named word =
     nat_le 49 (slice_index_or word 3 0) && nat_le (slice_index_or word 3 0) 54
     then Some (slice_index_or word 3 0 - 49) else None
 
+-- whether an input of a kind has a key: a position where it is one of an axis on which the block
+-- acts
+abbrev pub is_key : BlockKind → Input → Bool
+is_key k input.Position = has_places k
+is_key k input.Direction = false
+is_key k i = true
+
 -- the key of an input, and of this place where it is a position, if the block takes it
 unfoldable pub slot_at : Callee → Input → ℕ → Option Slot
 slot_at b i place =
-    if takes b.kind i && nat_lt place b.axes then Some (record { input = i; place = place })
-    else None
+    if (takes b.kind i && is_key b.kind i) && nat_lt place b.axes
+    then Some (record { input = i; place = place }) else None
 
 -- the key that a word is in a call of a block that acts on an axis
 abbrev pub slot_on_axis : Callee → Option Input → Option Slot
@@ -67,6 +76,7 @@ rank_by place input.Master = 11
 rank_by place input.Numerator = 12
 rank_by place input.Denominator = 13
 rank_by place input.Table = 14
+rank_by place input.Direction = 15
 
 -- the key of an expression, by its input
 abbrev pub key_by : ℕ → Input → Option Key
@@ -76,6 +86,7 @@ key_by place input.Acceleration = Some key.Acceleration
 key_by place input.Deceleration = Some key.Deceleration
 key_by place input.Jerk = Some key.Jerk
 key_by place input.Mode = None
+key_by place input.Direction = None
 key_by place input.Master = None
 key_by place input.Numerator = Some key.Numerator
 key_by place input.Denominator = Some key.Denominator

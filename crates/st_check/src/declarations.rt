@@ -6,7 +6,6 @@ ghost use Rattle.st_check.specs.Declarations as spec;
 use crate::checker::Checker;
 use crate::known::{Declaration, Known, Sort, ValueType};
 use crate::pile::push;
-use machine_words::is_whole;
 use motion_history::ConfigFault;
 use motion_numbers::OutOfMemory;
 use plc_types::Name;
@@ -154,7 +153,7 @@ impl Checker {
     pub fn text_end(&mut self, line: u64)
         ensures { self.new ≡ spec.end line self.old }
     {
-        let whole = is_whole(&self.machine);
+        let whole = self.machine.whole_fault().is_none();
         self.need(whole, line, 6);
     }
 }

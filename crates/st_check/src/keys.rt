@@ -2,9 +2,10 @@
 
 ghost use Rattle.std.specs.Prelude.{◌≡◌};
 ghost use Rattle.st_check.specs.Keys as spec;
+ghost use Rattle.st_tree.specs.Fitting as fitting;
 
 use crate::known::{Callee, Slot};
-use plc_types::{Input, takes};
+use plc_types::{BlockKind, Input, takes};
 use st_tree::Key;
 
 /// The inputs that have keys, in the order of the keys.
@@ -33,6 +34,7 @@ fn word_of(input: Input) -> &'static str
         Input::Deceleration => "dec",
         Input::Jerk => "jerk",
         Input::Mode => "mode",
+        Input::Direction => "dir",
         Input::Master => "master",
         Input::Numerator => "num",
         Input::Denominator => "den",
@@ -63,12 +65,32 @@ fn place_named(word: &[u8]) -> Option<u8>
     }
 }
 
+// Whether an input of a kind has a key: a position where it is one of an axis on which the block
+// acts.
+fn is_key(kind: BlockKind, input: Input) -> bool
+    ensures { result ≡ spec.is_key kind input }
+{
+    match input {
+        Input::Position => has_places(kind),
+        Input::Direction => false,
+        _ => true,
+    }
+}
+
+// Whether the positions of a kind are those of the axes on which it acts.
+fn has_places(kind: BlockKind) -> bool
+    ensures { result ≡ fitting.has_places kind }
+{
+    !matches!(kind, BlockKind::GearInPos | BlockKind::CamIn)
+}
+
 // The key of an input, and of this place where it is a position, if the block takes it.
 #[tactic(auto, unfolding(crate::specs::Keys::slot_at))]
 fn slot_at(callee: Callee, input: Input, place: u8) -> Option<Slot>
     ensures { result ≡ spec.slot_at callee input place }
 {
-    if takes(callee.kind, input) && (place as usize) < callee.axes {
+    let has_key = takes(callee.kind, input) && is_key(callee.kind, input);
+    if has_key && (place as usize) < callee.axes {
         Some(Slot { input, place })
     } else {
         None
@@ -126,6 +148,7 @@ pub fn rank_of(slot: Slot) -> u8
         Input::Numerator => 12,
         Input::Denominator => 13,
         Input::Table => 14,
+        Input::Direction => 15,
     }
 }
 
@@ -140,7 +163,7 @@ pub fn key_of_slot(slot: Slot) -> Option<Key>
         Input::Acceleration => Some(Key::Acceleration),
         Input::Deceleration => Some(Key::Deceleration),
         Input::Jerk => Some(Key::Jerk),
-        Input::Mode | Input::Master => None,
+        Input::Mode | Input::Direction | Input::Master => None,
         Input::Numerator => Some(Key::Numerator),
         Input::Denominator => Some(Key::Denominator),
         Input::Table => Some(Key::Table),

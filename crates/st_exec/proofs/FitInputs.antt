@@ -8,7 +8,10 @@ use Rattle.std.proofs.Math.Nat.{div-le_of_le-mul, le_trans, mul_comm}
 use Rattle.std.proofs.lemmas.Bool.{ltb-true}
 use Rattle.std.proofs.lemmas.Int.{ints, SFits-int_wrap, unsigned_abs-mul}
 use Rattle.std.proofs.lemmas.Nat.{mul-le}
-use Rattle.plc_types.specs.Inputs.{IsTaken, takes}
+use Rattle.plc_types.specs.Inputs.{IsTaken, may_give, position_count, takes}
+use Rattle.plc_types.specs.declared.kind.BlockKind.{BlockKind}
+use Rattle.plc_types.specs.declared.kind.BlockKind.TheVariants.{CamIn, GearInPos}
+use Rattle.st_tree.specs.Fitting.{has_places}
 use Rattle.plc_types.specs.declared.inputs.Input.TheVariants as input
 use Rattle.plc_types.specs.declared.inputs.Inputs.{Inputs}
 use Rattle.plc_types.specs.declared.outputs.Outputs.{Outputs}
@@ -86,6 +89,16 @@ at_place P (x ∷ ps) (suc p) (suc n) z put before =
 
 -- ---- keys
 
+-- a kind that has a position for each axis gives these, and no other
+gives-places : (k : BlockKind) → has_places k ≡ true → takes k input.Position ≡ true → may_give k input.Position ≡ true
+gives-places CamIn h t = absurd (cc)
+gives-places _ h t = t
+
+own-places : (k : BlockKind) (axes : ℕ) → has_places k ≡ true → position_count k axes ≡ axes
+own-places CamIn axes h = absurd (cc)
+own-places GearInPos axes h = absurd (cc)
+own-places _ axes h = refl
+
 -- what a call gives besides its keys
 pub execute-fit : (s : Setup) (b : BlockDef) (execute : Bool) → 1 ≤ length s.axes →
     AreFit s b (with_execute execute)
@@ -98,6 +111,7 @@ execute-fit s b execute some = record {
     deceleration = record { left_out = λ none. refl; size = lit≤ tt };
     jerk = record { left_out = λ none. refl; size = lit≤ tt };
     mode = λ none. refl;
+    direction = λ none. refl;
     master = λ none. refl;
     numerator = record { left_out = λ none. refl; size = lit≤ tt };
     denominator = record { left_out = λ none. refl; size = lit≤ tt };
@@ -107,20 +121,22 @@ execute-fit s b execute some = record {
 }
 
 dint-fit : (us : ℕ) (s : Setup) (b : BlockDef) (key : Key) (z : ℤ) (i : Inputs) → IsCycle us → IsDint z →
-    takes b.kind (input_of key) ≡ true → is_placed (axes_of s b) key ≡ true → AreFit s b i →
+    takes b.kind (input_of key) ≡ true → is_placed b.kind (axes_of s b) key ≡ true → AreFit s b i →
     AreFit s b (with_dint us key z i)
 dint-fit us s b (Position place) z i cycle small is_taken placed fit = record {
   inputs = record {
-    positions = λ n. at_place (λ y. IsTaken (takes b.kind input.Position) (pos 0) y) i.positions place n (thousandths z)
-        (λ e. taken _ (pos 0) (thousandths z) is_taken (thousandths-small z small)) (fit.inputs.positions n);
+    positions = λ n. at_place (λ y. IsTaken (may_give b.kind input.Position) (pos 0) y) i.positions place n (thousandths z)
+        (λ e. taken _ (pos 0) (thousandths z) (gives-places b.kind (both_left (has_places b.kind) _ placed) is_taken) (thousandths-small z small)) (fit.inputs.positions n);
     few_positions = λ n many. at_place (λ y. y ≡ pos 0) i.positions place n (thousandths z)
-        (λ e. let below : place < axes_of s b = ltb-true _ _ placed in
-        absurd (omega (arith, e, many, below))) (fit.inputs.few_positions n many);
+        (λ e. let below : place < axes_of s b = ltb-true _ _ (both_right (has_places b.kind) _ placed) in
+        let own = own-places b.kind (axes_of s b) (both_left (has_places b.kind) _ placed) in
+        absurd (omega (arith, e, many, below, own))) (fit.inputs.few_positions n many);
     velocity = fit.inputs.velocity;
     acceleration = fit.inputs.acceleration;
     deceleration = fit.inputs.deceleration;
     jerk = fit.inputs.jerk;
     mode = fit.inputs.mode;
+    direction = fit.inputs.direction;
     master = fit.inputs.master;
     numerator = fit.inputs.numerator;
     denominator = fit.inputs.denominator;
@@ -138,6 +154,7 @@ dint-fit us s b Velocity z i cycle small is_taken placed fit = record {
     deceleration = fit.inputs.deceleration;
     jerk = fit.inputs.jerk;
     mode = fit.inputs.mode;
+    direction = fit.inputs.direction;
     master = fit.inputs.master;
     numerator = fit.inputs.numerator;
     denominator = fit.inputs.denominator;
@@ -154,6 +171,7 @@ dint-fit us s b Acceleration z i cycle small is_taken placed fit = record {
     deceleration = fit.inputs.deceleration;
     jerk = fit.inputs.jerk;
     mode = fit.inputs.mode;
+    direction = fit.inputs.direction;
     master = fit.inputs.master;
     numerator = fit.inputs.numerator;
     denominator = fit.inputs.denominator;
@@ -170,6 +188,7 @@ dint-fit us s b Deceleration z i cycle small is_taken placed fit = record {
     deceleration = taken _ (pos 0) _ is_taken (squared-small us z cycle small);
     jerk = fit.inputs.jerk;
     mode = fit.inputs.mode;
+    direction = fit.inputs.direction;
     master = fit.inputs.master;
     numerator = fit.inputs.numerator;
     denominator = fit.inputs.denominator;
@@ -186,6 +205,7 @@ dint-fit us s b Jerk z i cycle small is_taken placed fit = record {
     deceleration = fit.inputs.deceleration;
     jerk = taken _ (pos 0) _ is_taken (thousandths-small z small);
     mode = fit.inputs.mode;
+    direction = fit.inputs.direction;
     master = fit.inputs.master;
     numerator = fit.inputs.numerator;
     denominator = fit.inputs.denominator;
@@ -202,6 +222,7 @@ dint-fit us s b Numerator z i cycle small is_taken placed fit = record {
     deceleration = fit.inputs.deceleration;
     jerk = fit.inputs.jerk;
     mode = fit.inputs.mode;
+    direction = fit.inputs.direction;
     master = fit.inputs.master;
     numerator = taken _ (pos 1) _ is_taken (dint-small z small);
     denominator = fit.inputs.denominator;
@@ -218,6 +239,7 @@ dint-fit us s b Denominator z i cycle small is_taken placed fit = record {
     deceleration = fit.inputs.deceleration;
     jerk = fit.inputs.jerk;
     mode = fit.inputs.mode;
+    direction = fit.inputs.direction;
     master = fit.inputs.master;
     numerator = fit.inputs.numerator;
     denominator = taken _ (pos 1) _ is_taken (dint-small z small);
@@ -234,6 +256,7 @@ dint-fit us s b Table z i cycle small is_taken placed fit = record {
     deceleration = fit.inputs.deceleration;
     jerk = fit.inputs.jerk;
     mode = fit.inputs.mode;
+    direction = fit.inputs.direction;
     master = fit.inputs.master;
     numerator = fit.inputs.numerator;
     denominator = fit.inputs.denominator;
@@ -257,6 +280,7 @@ given-fit us s b vars last (Mode mode) i cycle given fit = record {
     deceleration = fit.inputs.deceleration;
     jerk = fit.inputs.jerk;
     mode = λ none. absurd (cc);
+    direction = fit.inputs.direction;
     master = fit.inputs.master;
     numerator = fit.inputs.numerator;
     denominator = fit.inputs.denominator;
@@ -273,6 +297,7 @@ given-fit us s b vars last (Master axis) i cycle given fit = record {
     deceleration = fit.inputs.deceleration;
     jerk = fit.inputs.jerk;
     mode = fit.inputs.mode;
+    direction = fit.inputs.direction;
     master = λ none. let is_taken : takes b.kind input.Master ≡ true =
         both_left (takes b.kind input.Master) (nat_lt axis (length s.axes)) given in absurd (cc);
     numerator = fit.inputs.numerator;

@@ -2,6 +2,8 @@
 use Rattle.std.specs.Prelude.{◌≡◌, ℕ, Bool, true, false, ◌&&◌, ◌+◌, nat_lt, ◌==◌, Option, Some, None, List, [], ◌∷◌, length, slice_get, IsTrue}
 use Rattle.std.specs.List.{list_all}
 use Rattle.plc_types.specs.Inputs.{takes}
+use Rattle.plc_types.specs.declared.kind.BlockKind.{BlockKind}
+use Rattle.plc_types.specs.declared.kind.BlockKind.TheVariants.{CamIn, GearInPos}
 use Rattle.plc_types.specs.declared.inputs.Input.{Input}
 use Rattle.plc_types.specs.declared.inputs.Input.TheVariants as input
 use Rattle.motion_history.specs.Calls.{axes_of}
@@ -27,14 +29,20 @@ input_of Numerator = input.Numerator
 input_of Denominator = input.Denominator
 input_of Table = input.Table
 
+-- whether the positions of a kind are those of the axes on which it acts
+abbrev pub has_places : BlockKind → Bool
+has_places GearInPos = false
+has_places CamIn = false
+has_places k = true
+
 -- a position is one of an axis on which the block acts
-abbrev pub is_placed : ℕ → Key → Bool
-is_placed axes (Position place) = nat_lt place axes
-is_placed axes _ = true
+abbrev pub is_placed : BlockKind → ℕ → Key → Bool
+is_placed k axes (Position place) = has_places k && nat_lt place axes
+is_placed k axes _ = true
 
 -- the kind of the block takes what is given, and a master is an axis of the machine
 abbrev pub is_given : Setup → BlockDef → Given → Bool
-is_given s b (Number key value) = takes b.kind (input_of key) && is_placed (axes_of s b) key
+is_given s b (Number key value) = takes b.kind (input_of key) && is_placed b.kind (axes_of s b) key
 is_given s b (Mode mode) = takes b.kind input.Mode
 is_given s b (Master axis) = takes b.kind input.Master && nat_lt axis (length s.axes)
 
