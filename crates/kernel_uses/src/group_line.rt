@@ -9,7 +9,7 @@ use crate::full_history::{NotMade, try_call, try_cycle};
 use crate::one_axis::has_ended;
 use drive_sim::Drive;
 use machine_drives::{answer_all, step_all};
-use motion_history::{BlockKind, Builder, ConfigFault, Limits, MOST_AXES};
+use motion_history::{AxisParameters, BlockKind, Builder, ConfigFault, Limits, MOST_AXES};
 use motion_kernel::{Config, Inputs, Kernel, Outputs};
 use plc_types::{INPUTS_OFF, NO_ANSWER, NO_OUTPUT};
 use std::alloc::Global;
@@ -19,12 +19,19 @@ const ENABLE: u16 = 0;
 
 const LINE: u16 = 1;
 
-const LIMITS: Limits = Limits {
-    lo: 0,
-    hi: 50,
-    vmax: 10,
-    amax: 4,
-    dmax: 4,
+const AXIS: AxisParameters = AxisParameters {
+    limits: Limits {
+        lo: 0,
+        hi: 50,
+        vmax: 10,
+        amax: 4,
+        dmax: 4,
+    },
+    inc: 1,
+    start: 0,
+    ready: true,
+    jmax: 0,
+    modulo: false,
 };
 
 /// A machine of two axes, X and Y, whose drives are switched on, in a group XY, with two blocks: 0
@@ -33,8 +40,8 @@ pub fn machine_of_a_group(alloc: Global) -> Result<Config, ConfigFault>
     ensures { IfOk result (λ c. length c.axes ≡ 2) }
 {
     let mut builder = Builder::open(alloc, 200, 1_000)?;
-    let x = builder.axis(b"X", &LIMITS, 1, 0, true)?;
-    let y = builder.axis(b"Y", &LIMITS, 1, 0, true)?;
+    let x = builder.axis(b"X", &AXIS)?;
+    let y = builder.axis(b"Y", &AXIS)?;
     let group = builder.group(b"XY", &[x, y])?;
     let task = builder.task(b"main")?;
     builder.block(b"Enable", task, BlockKind::GroupEnable, group)?;

@@ -9,7 +9,7 @@ ghost use Rattle.motion_history.specs.LastCycles.{axis_row_in, last_cycle_of};
 
 use crate::full_history::{NotMade, try_call, try_cycle};
 use drive_sim::Drive;
-use motion_history::{AxisRow, BlockKind, Builder, ConfigFault, Limits};
+use motion_history::{AxisParameters, AxisRow, BlockKind, Builder, ConfigFault, Limits};
 use motion_kernel::{Config, Inputs, Kernel, Outputs};
 use plc_types::{INPUTS_OFF, NO_OUTPUT};
 use std::alloc::Global;
@@ -19,13 +19,20 @@ const POWER: u16 = 0;
 
 const MOVE: u16 = 1;
 
-/// The limits of the axis, in internal units, units per cycle and per cycle per cycle.
-const LIMITS: Limits = Limits {
-    lo: 0,
-    hi: 50,
-    vmax: 10,
-    amax: 4,
-    dmax: 4,
+/// The axis, in internal units, units per cycle and per cycle per cycle.
+const AXIS: AxisParameters = AxisParameters {
+    limits: Limits {
+        lo: 0,
+        hi: 50,
+        vmax: 10,
+        amax: 4,
+        dmax: 4,
+    },
+    inc: 1,
+    start: 0,
+    ready: false,
+    jmax: 0,
+    modulo: false,
 };
 
 /// A machine of one axis, X, whose drive isn't switched on at first, with a task that has three
@@ -34,7 +41,7 @@ pub fn machine_of_one_axis(alloc: Global) -> Result<Config, ConfigFault>
     ensures { IfOk result (λ c. length c.axes ≡ 1) }
 {
     let mut builder = Builder::open(alloc, 200, 1_000)?;
-    let axis = builder.axis(b"X", &LIMITS, 1, 0, false)?;
+    let axis = builder.axis(b"X", &AXIS)?;
     let task = builder.task(b"main")?;
     builder.block(b"Power", task, BlockKind::Power, axis)?;
     builder.block(b"Move", task, BlockKind::MoveAbsolute, axis)?;

@@ -13,7 +13,7 @@ use Rattle.motion_kernel.specs.Segments.{SegmentedState}
 use Rattle.outside.specs.MemorySink.{bytes_of}
 use Rattle.outside.specs.declared.memory_sink.MemorySink.{MemorySink}
 use Rattle.segment_text.specs.TraceSegment.{segment_text}
-use Rattle.trace_text.specs.Trace.{CanHold, has_kinds, run_version, trace_text}
+use Rattle.trace_text.specs.Trace.{CanHold, has_machine, run_version, trace_text}
 use Rattle.trace_text.specs.declared.command.Command.TheVariants.{Bench}
 use Rattle.trace_text.specs.declared.drive_end.DriveEndRow.{DriveEndRow}
 use Rattle.motion_c.specs.declared.machine.Machine.{Machine}
@@ -33,10 +33,10 @@ end_of_drive cycles answer = record {
 
 -- the version of a machine's trace: 1 exactly where the machine was opened by a text of version 1,
 -- and version 1 can hold it; 3 exactly where it was opened by a text of version 3, or the machine
--- has a kind of block that version 2 hasn't
+-- asks for what version 2 hasn't
 pub record IsTraceVersion (opened : TraceVersion) (s : Setup) (v : TraceVersion) : Type 0 where
   pub one : (v ≡ One) ↔ ((opened ≡ One) × CanHold One s)
-  pub three : (v ≡ Three) ↔ ((opened ≡ Three) ⊎ (has_kinds Two s.blocks ≡ false))
+  pub three : (v ≡ Three) ↔ ((opened ≡ Three) ⊎ (has_machine Two s ≡ false))
 
 -- the trace of a segment whose drives took the setpoint of each of its cycles and answer so
 abbrev pub segment_trace : TraceVersion → SegmentedState → List DriveIn → List ℕ
@@ -57,7 +57,7 @@ pub record IsTraceOf (m : Machine) (answers : List DriveIn) (text : List ℕ) : 
   pub tells : text ≡ segment_trace version m.kernel.kernel answers
 
 -- a text is the trace segment that a segment is: where the segment begins, and a trace, of version 2
--- or, where the machine has a kind of block that only version 3 has, of version 3
+-- or, where the machine asks for what only version 3 has, of version 3
 abbrev pub IsTraceSegmentOf : SegmentedState → List DriveIn → List ℕ → Type 0
 IsTraceSegmentOf k answers text =
     text ≡ segment_text k.before k.start (segment_trace (run_version k.config) k answers)

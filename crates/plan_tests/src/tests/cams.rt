@@ -1,6 +1,6 @@
 // Cam tables: which points make one, what is reported of others, and where a follower is to stand.
 
-use cam_table::{CamFault, CamTable};
+use cam_table::{CamFault, CamTable, Sort};
 use follow_plan::{cam_position, gear_difference, gear_toward};
 use std::alloc::Global;
 use std::test::Fail;
@@ -9,7 +9,7 @@ const MOST: i64 = 1_000_000_000_000_000;
 
 // What is wrong with the points, or none.
 fn fault_of(alloc: Global, points: &[(i64, i64)]) -> Option<CamFault> {
-    match CamTable::new(alloc, points) {
+    match CamTable::new(alloc, Sort::Plain, points) {
         Ok(_) => None,
         Err(fault) => Some(fault),
     }
@@ -76,7 +76,7 @@ fn follows_a_cam(rt: HostRuntime) -> Result<(), Fail> {
         (wide, 7, 7),
     ];
     for (points, master, position) in cases {
-        let table = CamTable::new(rt.alloc(), points)?;
+        let table = CamTable::new(rt.alloc(), Sort::Plain, points)?;
         assert_eq!(rt;
             cam_position(&table, master),
             position,

@@ -37,9 +37,17 @@ const WRONG: [(&str, u64, u8); 14] = [
     ("TYPE a : (b := c, c); END_TYPE", 1, 3),
     ("TYPE\na : (\nb := 40000); END_TYPE", 1, 4),
     ("TYPE a : (b := 32767,\nc); END_TYPE", 2, 5),
-    ("VAR_GLOBAL CONSTANT k : DINT := 1; END_VAR\nTYPE a : (b := k); END_TYPE", 2, 4),
+    (
+        "VAR_GLOBAL CONSTANT k : DINT := 1; END_VAR\nTYPE a : (b := k); END_TYPE",
+        2,
+        4,
+    ),
     ("VAR_GLOBAL main : DINT; END_VAR\n", 2, 3),
-    ("VAR_GLOBAL a : ARRAY[1..2] OF INT := [1,\n2,\n3,\n4]; END_VAR", 3, 5),
+    (
+        "VAR_GLOBAL a : ARRAY[1..2] OF INT := [1,\n2,\n3,\n4]; END_VAR",
+        3,
+        5,
+    ),
     ("VAR_GLOBAL CONSTANT k : INT := k; END_VAR", 1, 3),
 ];
 
@@ -67,7 +75,11 @@ const WRONG_LOCALS: [(&str, u64, u8); 24] = [
     ("VAR_INPUT start : BOOL\n:= TRUE; END_VAR", 2, 5),
     ("VAR_INPUT start : TON; END_VAR", 2, 4),
     ("VAR _a : MC_Power(X); END_VAR", 2, 3),
-    ("VAR CONSTANT k : BOOL := TRUE; END_VAR VAR x : BOOL := -k; END_VAR", 2, 4),
+    (
+        "VAR CONSTANT k : BOOL := TRUE; END_VAR VAR x : BOOL := -k; END_VAR",
+        2,
+        4,
+    ),
     ("VAR x : DINT := 2147483648; END_VAR", 2, 5),
 ];
 
@@ -131,9 +143,15 @@ fn declarations_in_order_break_no_rule(rt: HostRuntime) {
 #[test]
 fn wrong_declarations_are_refused_by_their_line_and_rule(rt: HostRuntime) {
     for (before, line, rule) in WRONG {
-        assert_eq!(rt; fault_with(rt.alloc(), before, ""), Some(Some((line, rule))));
+        assert_eq!(rt;
+            fault_with(rt.alloc(), before, ""),
+            Some(Some((line, rule)))
+        );
     }
     for (inside, line, rule) in WRONG_LOCALS {
-        assert_eq!(rt; fault_with(rt.alloc(), "", inside), Some(Some((line, rule))));
+        assert_eq!(rt;
+            fault_with(rt.alloc(), "", inside),
+            Some(Some((line, rule)))
+        );
     }
 }

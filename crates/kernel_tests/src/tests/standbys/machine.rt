@@ -3,8 +3,8 @@
 ghost use Rattle.std.specs.Prelude.{◌≡◌, ◌≤◌};
 
 use hot_standby::{DriveIn, Fed, FedEvent, Feed, Inputs, Kernel, Standby, open_standby};
-use motion_history::{Builder, Config, ConfigFault, EntryLook, History, Limits};
-use plc_types::{BlockKind, BufferMode};
+use motion_history::{AxisParameters, Builder, Config, ConfigFault, EntryLook, History, Limits};
+use plc_types::{BlockKind, BufferMode, Direction};
 use std::alloc::Global;
 use std::process::Abort;
 use std::test::Fail;
@@ -29,15 +29,22 @@ const PLACES: [i32; 7] = [0, 2, 6, 12, 16, 19, 20];
 
 /// An axis in Standstill, with a move of the task `main` and a power of the task `other`.
 pub(crate) fn machine(alloc: Global, cycles: u32, entries: u32) -> Result<Config, ConfigFault> {
-    let limits = Limits {
-        lo: 0,
-        hi: 50,
-        vmax: 10,
-        amax: 4,
-        dmax: 4,
+    let axis = AxisParameters {
+        limits: Limits {
+            lo: 0,
+            hi: 50,
+            vmax: 10,
+            amax: 4,
+            dmax: 4,
+        },
+        inc: 1,
+        start: 0,
+        ready: true,
+        jmax: 0,
+        modulo: false,
     };
     let mut builder = Builder::open(alloc, cycles, entries)?;
-    builder.axis(b"X", &limits, 1, 0, true)?;
+    builder.axis(b"X", &axis)?;
     add_blocks(&mut builder)?;
     builder.finish()
 }
@@ -61,6 +68,7 @@ pub(crate) fn no_inputs() -> Inputs {
         deceleration: 0,
         jerk: 0,
         mode: BufferMode::Aborting,
+        direction: Direction::Shortest,
         master: 0,
         numerator: 1,
         denominator: 1,

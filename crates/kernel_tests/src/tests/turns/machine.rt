@@ -6,8 +6,8 @@ ghost use Rattle.plc_types.specs.Inputs.{AreInputs};
 ghost use Rattle.kernel_turn.specs.Turns.{IsSamePermit, opening_permit};
 
 use kernel_turn::{DriveIn, Inputs, Kernel, KernelTurn, Outputs, Permit, Turn};
-use motion_history::{Builder, Config, ConfigFault, Limits};
-use plc_types::{BlockKind, BufferMode, NO_OUTPUT};
+use motion_history::{AxisParameters, Builder, Config, ConfigFault, Limits};
+use plc_types::{BlockKind, BufferMode, Direction, NO_OUTPUT};
 use std::alloc::Global;
 use std::process::Abort;
 use std::sync::Wait;
@@ -19,15 +19,22 @@ const BLOCKS: [&[u8]; 3] = [b"One", b"Two", b"Three"];
 
 /// A machine of one axis, with up to three tasks of one block each, which powers it.
 fn machine(alloc: Global, cycles: u32, entries: u32, tasks: u8) -> Result<Config, ConfigFault> {
-    let limits = Limits {
-        lo: 0,
-        hi: 50,
-        vmax: 10,
-        amax: 4,
-        dmax: 4,
+    let axis = AxisParameters {
+        limits: Limits {
+            lo: 0,
+            hi: 50,
+            vmax: 10,
+            amax: 4,
+            dmax: 4,
+        },
+        inc: 1,
+        start: 0,
+        ready: true,
+        jmax: 0,
+        modulo: false,
     };
     let mut builder = Builder::open(alloc, cycles, entries)?;
-    builder.axis(b"A", &limits, 1, 0, true)?;
+    builder.axis(b"A", &axis)?;
     for task in 0..tasks.min(3) {
         builder.task(TASKS[task as usize])?;
         builder.block(BLOCKS[task as usize], task, BlockKind::Power, 0)?;
@@ -63,6 +70,7 @@ fn enabled() -> Inputs
         deceleration: 0,
         jerk: 0,
         mode: BufferMode::Aborting,
+        direction: Direction::Shortest,
         master: 0,
         numerator: 1,
         denominator: 1,
