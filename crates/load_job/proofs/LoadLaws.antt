@@ -10,6 +10,7 @@ use Rattle.std.proofs.lemmas.Nat.{mod_below}
 use Rattle.bench_text.specs.BenchState.{BenchState, BrakesAsItSpeedsUp, IsBench, IsDrive, IsLineOf}
 use Rattle.bench_text.specs.declared.bench.BenchLine.{BenchLine}
 use Rattle.bench_text.specs.declared.bench.BenchLine.TheVariants.{Call, Cycles, End}
+use Rattle.plc_types.specs.declared.kind.Direction.TheVariants.{Shortest}
 use Rattle.plc_types.specs.Kinds.{acts_on_group}
 use Rattle.plc_types.specs.declared.kind.BlockKind.TheVariants.{MoveAbsolute}
 use Rattle.plc_types.specs.declared.kind.BufferMode.{BufferMode}
@@ -77,6 +78,7 @@ move e p v a d m = record {
   deceleration = d;
   jerk = pos 0;
   mode = m;
+  direction = Shortest;
   master = 0;
   numerator = pos 1;
   denominator = pos 1;
@@ -99,6 +101,7 @@ move-is e p v a d m small-p small-v small-a small-d = record {
   deceleration = taken (pos 0) d small-d;
   jerk = taken (pos 0) (pos 0) (lit≤ tt);
   mode = λ none. absurd (cc);
+  direction = λ none. refl;
   master = λ none. refl;
   numerator = left (pos 1) (lit≤ tt);
   denominator = left (pos 1) (lit≤ tt);

@@ -5,6 +5,7 @@ use Rattle.bench_text.specs.BenchState.{BenchState}
 use Rattle.bench_text.specs.declared.bench.BenchLine.{BenchLine}
 use Rattle.bench_text.specs.declared.bench.BenchLine.TheVariants.{Call, Cycles, End}
 use Rattle.plc_types.specs.Inputs.{inputs_off}
+use Rattle.plc_types.specs.declared.kind.Direction.TheVariants.{Shortest}
 use Rattle.plc_types.specs.declared.inputs.Inputs.{Inputs}
 use Rattle.motion_history.specs.Drives.{plain_drive}
 use Rattle.motion_history.specs.declared.refused.TraceVersion.TheVariants.{One}
@@ -22,6 +23,7 @@ inputs_of r = record {
   deceleration = pos r.deceleration;
   jerk = pos 0;
   mode = r.mode;
+  direction = Shortest;
   master = 0;
   numerator = pos 1;
   denominator = pos 1;

@@ -1,6 +1,6 @@
 -- The machine of a generated load: eight axes with four blocks each, and one task. This project's
 -- profile.
-use Rattle.std.specs.Prelude.{ℕ, ◌+◌, pos, true, codes, List, [], ◌∷◌, ◌++◌, map}
+use Rattle.std.specs.Prelude.{ℕ, ◌+◌, pos, true, false, codes, List, [], ◌∷◌, ◌++◌, map}
 use Rattle.std.specs.List.{flat_map, range_with_len}
 use Rattle.plc_types.specs.declared.axis.AxisDef.{AxisDef}
 use Rattle.plc_types.specs.declared.kind.BlockKind.TheVariants.{MoveAbsolute}

@@ -1,6 +1,6 @@
 // Calls of blocks.
 
-ghost use Rattle.std.specs.Prelude.{◌≡◌, ◌≢◌, ◌↔◌, Some, None, IfSome};
+ghost use Rattle.std.specs.Prelude.{◌≡◌, ◌≢◌, ◌≤◌, ◌↔◌, Some, None, IfSome};
 ghost use Rattle.motion_c.specs.Calls as spec;
 ghost use Rattle.motion_c.specs.Calls.{GivesCall, MakesCall, TellsCall, inputs_for};
 ghost use Rattle.motion_c.specs.Held.{held};
