@@ -1,5 +1,5 @@
 -- Inputs that are read fit their block.
--- for: inputs_are_fit, crates above
+-- for: inputs_are_fit
 use Rattle.std.proofs.Common.{◌≡◌, ℕ, zero, suc, ◌<◌, ◌≤◌, ℤ, Bool, true, false, Option, Some, None, Ok, List, [], ◌∷◌, length, refl, subst, sym, arith, inl, inr, lit≤}
 use Rattle.std.specs.Prelude.{pos, codes, ◌||◌, slice_index_or}
 use Rattle.std.specs.List.{list_all}

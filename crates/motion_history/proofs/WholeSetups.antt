@@ -1,5 +1,5 @@
 -- A configuration that has its items and asks for nothing that isn't built is whole.
--- for: finish, crates above
+-- for: finish
 use Rattle.std.specs.Prelude.{◌≡◌, refl, ◌≤◌, Bool, true, false, ◌&&◌, not, if◌then◌else◌, nat_le, Option, Some, None, List, [], ◌∷◌, length}
 use Rattle.std.specs.List.{list_all}
 use Rattle.std.proofs.lemmas.Bool.{and_from, and_parts, le-leb, leb-true}

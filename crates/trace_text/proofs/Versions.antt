@@ -1,5 +1,5 @@
 -- The version in which a machine's trace is written can hold the machine.
--- for: trace_version, crates above
+-- for: traces_are_read_back, trace_version
 use Rattle.std.specs.Prelude.{◌≡◌, refl, ℕ, ◌≤◌, Bool, true, false, ◌&&◌, ◌||◌, not, nat_le, pos, if◌then◌else◌, List, [], ◌∷◌}
 use Rattle.std.proofs.Common.{arith, inl, inr}
 use Rattle.std.specs.Ordering.{int_eq}

@@ -1,5 +1,5 @@
 -- A command that a call makes is made of its inputs.
--- for: machines_stay_kept, call, cycle and others
+-- for: owners_have_blocks, machines_stay_kept, call and others
 use Rattle.std.specs.Prelude.{◌≡◌, refl, ℕ, zero, suc, ◌<◌, pos, Bool, true, false, not, ◌&&◌, ◌||◌, Some, List, [], ◌∷◌, length, slice_get, slice_index_or}
 use Rattle.std.proofs.Common.{arith, ap, subst, sym, ◌∙◌}
 use Rattle.axis_core.specs.Demands as axis
