@@ -139,6 +139,9 @@ IS(MOTION_GROUP_HALT, 16);
 IS(MOTION_MOVE_LINEAR_ABSOLUTE, 17);
 IS(MOTION_MOVE_CIRCULAR_ABSOLUTE, 18);
 IS(MOTION_MOVE_ADDITIVE, 19);
+IS(MOTION_GEAR_IN_POS, 20);
+IS(MOTION_SET_OVERRIDE, 21);
+IS(MOTION_GROUP_SET_OVERRIDE, 22);
 
 IS(MOTION_MOST_AXES, 16);
 IS(MOTION_MOST_GROUPS, 4);
@@ -445,6 +448,8 @@ static void kinds(void)
     }
     want("a kind of version 3", motion_kind_name(MOTION_MOVE_ADDITIVE, &name), MOTION_OK);
     want("MoveAdditive", strcmp(name.text, "MoveAdditive"), 0);
+    want("the last kind", motion_kind_name(MOTION_GROUP_SET_OVERRIDE, &name), MOTION_OK);
+    want("GroupSetOverride", strcmp(name.text, "GroupSetOverride"), 0);
     want("an axis's name", motion_axis_name(&m, 1, &name), MOTION_OK);
     want("the longest", strcmp(name.text, "Yes_16_bytes_lo"), 0);
     want("a group's name", motion_group_name(&m, 0, &name), MOTION_OK);

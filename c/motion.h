@@ -203,7 +203,10 @@ enum motion_kind {
     MOTION_GROUP_HALT = 16,
     MOTION_MOVE_LINEAR_ABSOLUTE = 17,
     MOTION_MOVE_CIRCULAR_ABSOLUTE = 18,
-    MOTION_MOVE_ADDITIVE = 19
+    MOTION_MOVE_ADDITIVE = 19,
+    MOTION_GEAR_IN_POS = 20,        /* this and those below aren't built yet: no machine has one */
+    MOTION_SET_OVERRIDE = 21,
+    MOTION_GROUP_SET_OVERRIDE = 22
 };
 
 /* What a block is. */
