@@ -1,13 +1,14 @@
 -- No item of the machine is refused, and the machine is the items that are added.
 -- for: generate, loads_fill_their_room
-use Rattle.std.proofs.Common.{◌≡◌, refl, get_or, ◌/◌, ◌%◌, sym, ◌∙◌, ap, ℕ, ◌<◌, ◌+◌, Bool, true, Option, Some, None, [], ◌∷◌, map, arith}
-use Rattle.std.specs.Prelude.{Err, pos, is_none, codes, ◌++◌}
+use Rattle.std.proofs.Common.{◌≡◌, refl, get_or, ◌/◌, ◌%◌, sym, ◌∙◌, ap, ℕ, ◌<◌, ◌+◌, Bool, true, false, Option, Some, None, [], ◌∷◌, map, arith}
+use Rattle.std.specs.Prelude.{Result, Ok, Err, IfErr, ◌↔◌, pos, is_none, codes, ◌++◌}
 use Rattle.std.specs.List.{list_all, range_with_len}
 use Rattle.std.proofs.lemmas.List.FromFn.{get_or-range_with_len, length-range_with_len, map-range_with_len_more}
 use Rattle.std.proofs.lemmas.List.Sums.{AllPass-from_list_all}
 use Rattle.plc_types.specs.declared.kind.BlockKind.TheVariants.{MoveAbsolute}
-use Rattle.motion_history.specs.Faults.{FaultsBy, axis_fault, block_fault, is_used, task_fault}
-use Rattle.motion_history.specs.Ranges.{is_axis_range}
+use Rattle.motion_history.specs.Faults.{FaultsBy, axis_fault, block_fault, is_used, task_fault, whole_fault}
+use Rattle.motion_history.specs.Ranges.{is_axis_range, is_travel}
+use Rattle.motion_history.specs.declared.axes.AxisParameters.{AxisParameters}
 use Rattle.motion_history.specs.Setup.{Setup}
 use Rattle.motion_history.specs.declared.config.BlockDef.{BlockDef}
 use Rattle.motion_history.specs.declared.fault.ConfigFault.{ConfigFault}
@@ -30,17 +31,28 @@ none-is (Some x) h = absurd (cc)
 abbrev pub with_axes : ℕ → Setup
 with_axes i = record bare { axes = map axis_of (range_with_len 0 i) }
 
+-- what each axis is given
+abbrev axis_given : AxisParameters
+axis_given = record {
+  limits = axis_limits;
+  inc = pos 1000;
+  start = pos first_place;
+  ready = true;
+  jmax = pos 0;
+  modulo = false;
+}
+
 -- whether the next axis is not refused
 abbrev is_new_axis : ℕ → Bool
 is_new_axis i =
-    is_none (axis_fault (with_axes i) (codes "G" ++ digit i ∷ []) axis_limits (pos 1000) (pos first_place))
+    is_none (axis_fault (with_axes i) (codes "G" ++ digit i ∷ []) axis_given)
 
 all-new-axes : list_all is_new_axis (range_with_len 0 8) ≡ true
-unfolding axis_fault is_used is_axis_range
+unfolding axis_fault is_used is_axis_range is_travel
 all-new-axes = refl
 
 pub new-axis : (i : ℕ) → i < 8 →
-    axis_fault (with_axes i) (codes "G" ++ digit i ∷ []) axis_limits (pos 1000) (pos first_place) ≡ None
+    axis_fault (with_axes i) (codes "G" ++ digit i ∷ []) axis_given ≡ None
 new-axis i lt = none-is _ (passes-at is_new_axis 8 i all-new-axes lt)
 
 -- ---- blocks
@@ -79,11 +91,11 @@ only-memory (Some f) e faults none = absurd (cc)
 only-memory None e faults none = faults
 
 pub axis-only : (s : Setup) (i : ℕ) (e : ConfigFault) → s ≡ with_axes i → i < 8 →
-    FaultsBy {A = ℕ} (axis_fault s (codes "G" ++ digit i ∷ []) axis_limits (pos 1000) (pos first_place)) (Err e) →
+    FaultsBy {A = ℕ} (axis_fault s (codes "G" ++ digit i ∷ []) axis_given) (Err e) →
     e ≡ OutOfMemory
 axis-only s i e is lt faults =
     only-memory _ e faults
-    (ap (λ m. axis_fault m (codes "G" ++ digit i ∷ []) axis_limits (pos 1000) (pos first_place)) is ∙ new-axis i lt)
+    (ap (λ m. axis_fault m (codes "G" ++ digit i ∷ []) axis_given) is ∙ new-axis i lt)
 
 pub block-only : (s : Setup) (n : ℕ) (e : ConfigFault) → s ≡ with_blocks n → n < 32 →
     FaultsBy {A = ℕ} (block_fault s (codes "M" ++ digit (n / 4) ∷ digit (n % 4) ∷ []) 0 MoveAbsolute (n / 4)) (Err e) →
@@ -91,6 +103,19 @@ pub block-only : (s : Setup) (n : ℕ) (e : ConfigFault) → s ≡ with_blocks n
 block-only s n e is lt faults =
     only-memory _ e faults
     (ap (λ m. block_fault m (codes "M" ++ digit (n / 4) ∷ digit (n % 4) ∷ []) 0 MoveAbsolute (n / 4)) is ∙ new-block n lt)
+
+-- the whole is not refused
+whole-none : whole_fault machine ≡ None
+unfolding machine
+whole-none = refl
+
+pub finished-only : {A : Type 0} (s : Setup) (r : Result A ConfigFault) → ((f : ConfigFault) → (r ≡ Err f) ↔ (whole_fault s ≡ Some f)) →
+    s ≡ machine → IfErr r (λ f. f ≡ OutOfMemory)
+finished-only s (Ok x) faults is = tt
+finished-only s (Err f) faults is =
+    let told = (faults f).0 refl in
+    let none = ap whole_fault is ∙ whole-none in
+    absurd (cc)
 
 -- ---- one more
 
